@@ -1,0 +1,46 @@
+-- Demand 1, as far as it is about values: "a refusal leaves strip and output unchanged and the work buffer zero". That every
+-- call ends and touches nothing but what was lent is the language's own promise; which input gets which number is the answer
+-- in each call's step. Assumes nothing.
+use mathlib.Core.Path.{_≡_}
+use mathlib.Core.List.{List}
+use Prim.Native.Nat.{ℕ}
+use lib.ListN.{length, getD}
+use Rattle.defs.specs.declared.Refusal.{Refusal}
+use Rattle.defs.specs.declared.Opening.the-variants.{Refused as NotOpened}
+use Rattle.defs.specs.declared.Covering.the-variants.{Refused as NotCovered}
+use Rattle.defs.specs.declared.Placing.{Placing}
+use Rattle.defs.specs.declared.Placing.the-variants.{Refused as NotPlaced}
+use Rattle.defs.specs.declared.Reading.the-variants.{Refused as NotRead}
+use Rattle.defs.specs.declared.Writing.the-variants.{Refused as NotWritten}
+use Rattle.defs.specs.declared.Laying.{Laying}
+use Rattle.defs.specs.declared.Laying.the-variants.{Refused as NotLaid}
+use Rattle.defs.specs.Computing.Calls.{OpenStep, CoverStep, PlaceStep}
+use Rattle.defs.specs.Computing.Sheets.{ReadStep, WriteStep}
+use Rattle.defs.specs.Computing.Lay.{LayStep}
+
+-- "A work buffer is zero after each call."
+pub record Zero (work work' : List ℕ) : Type 0 where
+  pub long : length work' ≡ length work
+  pub zero : (i : ℕ) → getD work' i 0 ≡ 0
+
+pub record Demand1 : Type 0 where
+  -- "Strip and output keep their words at a refusal."
+  pub open-keeps :
+      {W R N : ℕ} {s s' : List ℕ} {r : Refusal} → OpenStep W R N s (NotOpened r) s' → s' ≡ s
+  pub cover-keeps :
+      {o : List ℕ} {t R : ℕ} {out out' : List ℕ} {r : Refusal} → CoverStep o t R out (NotCovered r) out' → out' ≡ out
+  pub place-keeps :
+      {s o : List ℕ} {mask : ℕ} {work s' work' : List ℕ} {r : Refusal} → PlaceStep s o mask work (NotPlaced r) s' work' → s' ≡ s
+  pub read-keeps :
+      {b out out' : List ℕ} {r : Refusal} → ReadStep b out (NotRead r) out' → out' ≡ out
+  pub write-keeps :
+      {W R N : ℕ} {ws out out' : List ℕ} {r : Refusal} → WriteStep W R N ws out (NotWritten r) out' → out' ≡ out
+  pub lay-keeps :
+      {b s out work s' out' work' : List ℕ} {r : Refusal} → LayStep b s out work (NotLaid r) s' out' work' →
+      (s' ≡ s) × (out' ≡ out)
+  -- whatever is answered
+  pub place-clears :
+      {s o : List ℕ} {mask : ℕ} {work : List ℕ} {a : Placing} {s' work' : List ℕ} →
+      PlaceStep s o mask work a s' work' → Zero work work'
+  pub lay-clears :
+      {b s out work : List ℕ} {a : Laying} {s' out' work' : List ℕ} → LayStep b s out work a s' out' work' → Zero work work'

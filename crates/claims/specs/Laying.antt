@@ -1,0 +1,43 @@
+-- Lay is one list of place calls, so that demand 3 covers it; its totals are those of its output. Assumes nothing.
+use mathlib.Core.Path.{_≡_}
+use mathlib.Core.List.{List, []}
+use Prim.Native.Nat.{ℕ, zero, suc, _+_, _*_, _≤_, _<_}
+use lib.ListN.{length, getD}
+use Rattle.defs.specs.declared.Fate.{Fate}
+use Rattle.defs.specs.declared.Fate.the-variants.{Placed as FatePlaced, Refused as FateRefused}
+use Rattle.defs.specs.declared.Placing.{Placing}
+use Rattle.defs.specs.declared.Placing.the-variants.{Placed, Refused}
+use Rattle.defs.specs.declared.Laying.the-variants.{Laid}
+use Rattle.defs.specs.declared.Totals.{Totals}
+use Rattle.defs.specs.Answer.{fateWords}
+use Rattle.defs.specs.Meaning.Sheet.{Piece, SheetHolds, sheetW, sheetR, sheetN}
+use Rattle.defs.specs.Meaning.Job.{Used, CountPlaced}
+use Rattle.defs.specs.Computing.Lay.{LayStep}
+use Rattle.claims.specs.Trace.{Trace}
+
+-- a piece's fate by its place call
+abbrev pub fateOf : Placing → Fate
+fateOf (Placed p) = FatePlaced p
+fateOf (Refused r) = FateRefused (r .number)
+
+-- "Lay reads a sheet, opens the lent strip and places the pieces in chain order, going on after a piece that is refused.
+-- Output is four words a piece … The answer adds pieces placed and used columns"
+pub record LaysList (b s out : List ℕ) (t : Totals) (s' out' work : List ℕ) : Type 0 where
+  pub pieces : List Piece
+  pub sheet : SheetHolds b pieces
+  pub list : Trace (sheetW b) (sheetR b) (sheetN b)
+  pub opens : list .lent ≡ s
+  pub all-of-them : list .count ≡ length pieces
+  pub outlines : (m : ℕ) → m < length pieces → list .call m .outline ≡ getD pieces m (record { mask = 0; outline = [] }) .outline
+  pub masks : (m : ℕ) → m < length pieces → list .call m .mask ≡ getD pieces m (record { mask = 0; outline = [] }) .mask
+  pub works : (m : ℕ) → m < length pieces → length (list .call m .work) ≡ length work
+  pub leaves : list .strip (list .count) ≡ s'
+  pub output :
+      (m i : ℕ) → m < length pieces → i < 4 → getD out' (4 * m + i) 0 ≡ getD (fateWords (fateOf (list .call m .answer))) i 0
+  pub used : Used (sheetR b) (λ m. list .call m .outline) (λ m. fateOf (list .call m .answer)) (length pieces) (t .used)
+  pub placed : CountPlaced (λ m. fateOf (list .call m .answer)) (length pieces) (t .placed)
+
+unfoldable pub Lay-is-a-list : Type 0
+Lay-is-a-list =
+    (b s out work : List ℕ) (t : Totals) (s' out' work' : List ℕ) →
+    LayStep b s out work (Laid t) s' out' work' → LaysList b s out t s' out' work

@@ -1,0 +1,381 @@
+-- The table of trial pieces: every starred piece of document 01, those without a star that the calls can run, and rows for
+-- what the starred ones leave open. Each row is proved by computation against the definitions of specs/.
+-- Assumes nothing.
+use mathlib.Core.Path.{_≡_, refl}
+use mathlib.Core.Bool.{true, false}
+use mathlib.Core.List.{List, [], _∷_, _++_}
+use Prim.Native.Nat.{ℕ}
+use lib.ListN.{replicate, length, take}
+use Rattle.defs.specs.declared.Figures.{Figures}
+use Rattle.defs.specs.declared.Position.{Position}
+use Rattle.defs.specs.declared.Placing.{Placing}
+use Rattle.defs.specs.declared.Placing.the-variants.{Placed, Refused}
+use Rattle.defs.specs.declared.Opening.the-variants.{Opened, Refused as NotOpened}
+use Rattle.defs.specs.declared.Covering.the-variants.{Runs, Refused as NotCovered}
+use Rattle.defs.specs.declared.Reading.the-variants.{Read, Refused as NotRead}
+use Rattle.defs.specs.declared.Writing.the-variants.{Written, Refused as NotWritten}
+use Rattle.defs.specs.declared.Laying.the-variants.{Laid, Refused as NotLaid}
+use Rattle.defs.specs.Meaning.Sheet.{Piece, listWords}
+use Rattle.defs.specs.Computing.Cells.{Rows, pieceRuns}
+use Rattle.defs.specs.Computing.Words.{wellFormedb, columnsRuns}
+use Rattle.defs.specs.Computing.Search.{position}
+use Rattle.defs.specs.Computing.Calls.{refusal, openAnswer, coverAnswer, coverOutput, placeAnswer, openedStrip, placedStrip, listAnswers, Lent}
+use Rattle.defs.specs.Computing.Sheets.{sheetBytes, readAnswer, readOutput, writeAnswer, writeOutput}
+use Rattle.defs.specs.Computing.Lay.{layAnswer, layOutput}
+use Rattle.defs.specs.Computing.Ascii.{ascii}
+use Rattle.defs.specs.Computing.Text.{layText}
+use Rattle.defs.specs.Computing.Bytes.{wordsIn, bytesLeft}
+use Rattle.defs.specs.Computing.Runs.{runs}
+
+-- How a row is written: runs low to high, a piece with its mask (lent with 30 work words), and the answers.
+infixl 90 _to_
+abbrev _to_ : ℕ → ℕ → Rows
+_to_ l h = record { low = l; high = h }
+
+abbrev lent : List ℕ → ℕ → ℕ → Lent
+lent o mask words = record { outline = o; mask = mask; words = words }
+
+abbrev piece : List ℕ → ℕ → Lent
+piece o mask = lent o mask 30
+
+abbrev at : ℕ → ℕ → ℕ → Placing
+at t c y = Placed (position t c y)
+
+abbrev no : ℕ → Placing
+no n = Refused (refusal n 1)
+
+abbrev inList : List ℕ → Piece
+inList o = record { mask = 1; outline = o }
+
+-- The outlines.
+abbrev S : List ℕ
+S = 0 ∷ 0 ∷ 4 ∷ 0 ∷ 4 ∷ 4 ∷ 0 ∷ 4 ∷ []
+
+abbrev half : List ℕ
+half = 0 ∷ 0 ∷ 4 ∷ 0 ∷ 0 ∷ 4 ∷ []
+
+abbrev T : List ℕ
+T = 0 ∷ 0 ∷ 3 ∷ 0 ∷ 3 ∷ 2 ∷ []
+
+abbrev U : List ℕ
+U = 0 ∷ 0 ∷ 3 ∷ 2 ∷ 0 ∷ 2 ∷ []
+
+-- two edges cross between whole x
+abbrev tall-tie : List ℕ
+tall-tie = 0 ∷ 0 ∷ 1 ∷ 2 ∷ 1 ∷ 0 ∷ 0 ∷ 2 ∷ []
+
+-- two edges cross at x = 1
+abbrev wide-tie : List ℕ
+wide-tie = 0 ∷ 0 ∷ 2 ∷ 1 ∷ 2 ∷ 0 ∷ 0 ∷ 1 ∷ []
+
+abbrev flat : List ℕ
+flat = 0 ∷ 0 ∷ 4 ∷ 0 ∷ 2 ∷ 0 ∷ []
+
+abbrev bar : List ℕ
+bar = 0 ∷ 0 ∷ 6 ∷ 0 ∷ 6 ∷ 2 ∷ 0 ∷ 2 ∷ []
+
+-- a bar with a spur to (6, 0), which has no inside
+abbrev spur : List ℕ
+spur = 0 ∷ 0 ∷ 2 ∷ 0 ∷ 6 ∷ 0 ∷ 2 ∷ 0 ∷ 2 ∷ 2 ∷ 0 ∷ 2 ∷ []
+
+three : List Piece
+three = inList S ∷ inList S ∷ inList S ∷ []
+
+-- Runs, column by column from 0.
+
+-- * Square S, 4 by 4, R 2: runs 0–4, 0–4.
+square-runs : pieceRuns S 0 2 ≡ (0 to 4 ∷ []) ∷ (0 to 4 ∷ []) ∷ []
+unfolding runs
+square-runs = refl
+
+-- * (0,0) (4,0) (0,4), R 2: runs 0–4, 0–2.
+half-runs : pieceRuns half 0 2 ≡ (0 to 4 ∷ []) ∷ (0 to 2 ∷ []) ∷ []
+unfolding runs
+half-runs = refl
+
+-- * T = (0,0) (3,0) (3,2), R 1: 0–1, 0–2, 0–2.
+T-runs : pieceRuns T 0 1 ≡ (0 to 1 ∷ []) ∷ (0 to 2 ∷ []) ∷ (0 to 2 ∷ []) ∷ []
+unfolding runs
+T-runs = refl
+
+-- * U = (0,0) (3,2) (0,2), R 1: 0–2, 0–2, 1–2.
+U-runs : pieceRuns U 0 1 ≡ (0 to 2 ∷ []) ∷ (0 to 2 ∷ []) ∷ (1 to 2 ∷ []) ∷ []
+unfolding runs
+U-runs = refl
+
+-- T in turn 1, R 1: 1–3, 0–3. A turn the other way round would give 0–3, 0–2.
+T-turned-runs : pieceRuns T 1 1 ≡ (1 to 3 ∷ []) ∷ (0 to 3 ∷ []) ∷ []
+unfolding runs
+T-turned-runs = refl
+
+-- A vertex between resolution lines: (0,0) (3,0) (2,3), R 3: 0–3. No one unit column of the three has all of it.
+between-lines-runs : pieceRuns (0 ∷ 0 ∷ 3 ∷ 0 ∷ 2 ∷ 3 ∷ []) 0 3 ≡ (0 to 3 ∷ []) ∷ []
+unfolding runs
+between-lines-runs = refl
+
+-- A V that opens to the right and one that opens to the left, R 2: rows that only the second, or only the first, of the two
+-- unit columns covers.
+right-V-runs : pieceRuns (0 ∷ 2 ∷ 2 ∷ 0 ∷ 2 ∷ 4 ∷ []) 0 2 ≡ (0 to 4 ∷ []) ∷ []
+unfolding runs
+right-V-runs = refl
+
+left-V-runs : pieceRuns (2 ∷ 2 ∷ 0 ∷ 0 ∷ 0 ∷ 4 ∷ []) 0 2 ≡ (0 to 4 ∷ []) ∷ []
+unfolding runs
+left-V-runs = refl
+
+-- Two runs in a column: a frame open to the right, R 3.
+two-runs : pieceRuns (0 ∷ 0 ∷ 6 ∷ 0 ∷ 6 ∷ 1 ∷ 3 ∷ 1 ∷ 3 ∷ 4 ∷ 6 ∷ 4 ∷ 6 ∷ 5 ∷ 0 ∷ 5 ∷ []) 0 3 ≡ (0 to 5 ∷ []) ∷ (0 to 1 ∷ 4 to 5 ∷ []) ∷ []
+unfolding runs
+two-runs = refl
+
+-- The square walked three times is the square, since each edge counts.
+square-thrice-runs : pieceRuns (S ++ (S ++ S)) 0 2 ≡ (0 to 4 ∷ []) ∷ (0 to 4 ∷ []) ∷ []
+unfolding runs
+square-thrice-runs = refl
+
+-- The spur has no cells, and the extent takes it in: columns 1 and 2 are empty.
+spur-runs : pieceRuns spur 0 2 ≡ (0 to 2 ∷ []) ∷ [] ∷ [] ∷ []
+unfolding runs
+spur-runs = refl
+
+-- Positions, and numbers of one lent outline.
+
+-- * W 2, R 1, T then U, mask 1: N 6 gives U column 3;
+T-then-U-6 : listAnswers 2 1 6 6 (piece T 1 ∷ piece U 1 ∷ []) ≡ at 0 0 0 ∷ at 0 3 0 ∷ []
+unfolding runs
+T-then-U-6 = refl
+
+-- * N 5 gives 13.
+T-then-U-5 : listAnswers 2 1 5 6 (piece T 1 ∷ piece U 1 ∷ []) ≡ at 0 0 0 ∷ no 13 ∷ []
+unfolding runs
+T-then-U-5 = refl
+
+-- * (0,0) (1,2) (1,0) (0,2): 10.
+tall-tie-10 : listAnswers 10 1 10 6 (piece tall-tie 1 ∷ []) ≡ no 10 ∷ []
+unfolding runs
+tall-tie-10 = refl
+
+-- * (0,0) (2,1) (2,0) (0,1): mask 1 passes,
+wide-tie-1 : listAnswers 10 1 10 6 (piece wide-tie 1 ∷ []) ≡ at 0 0 0 ∷ []
+unfolding runs
+wide-tie-1 = refl
+
+-- * mask 2 gives 10.
+wide-tie-2 : listAnswers 10 1 10 6 (piece wide-tie 2 ∷ []) ≡ no 10 ∷ []
+unfolding runs
+wide-tie-2 = refl
+
+-- * (0,0) (4,0) (2,0): 11.
+flat-11 : listAnswers 10 1 10 6 (piece flat 1 ∷ []) ≡ no 11 ∷ []
+unfolding runs
+flat-11 = refl
+
+-- * 6 by 2, mask 3, R 2, N 10: W 4 turn 0;
+bar-4 : listAnswers 4 2 10 6 (piece bar 3 ∷ []) ≡ at 0 0 0 ∷ []
+unfolding runs
+bar-4 = refl
+
+-- * W 6 turn 1.
+bar-6 : listAnswers 6 2 10 6 (piece bar 3 ∷ []) ≡ at 1 0 0 ∷ []
+unfolding runs
+bar-6 = refl
+
+-- Three S, W 10, R 2, N 10: Q 3 refuses the third with 14,
+three-squares-3 : listAnswers 10 2 10 3 (piece S 1 ∷ piece S 1 ∷ piece S 1 ∷ []) ≡ at 0 0 0 ∷ at 0 0 4 ∷ no 14 ∷ []
+unfolding runs
+three-squares-3 = refl
+
+-- Q 4 places it.
+three-squares-4 : listAnswers 10 2 10 4 (piece S 1 ∷ piece S 1 ∷ piece S 1 ∷ []) ≡ at 0 0 0 ∷ at 0 0 4 ∷ at 0 2 0 ∷ []
+unfolding runs
+three-squares-4 = refl
+
+-- 16,001 gives 8;
+too-far-8 : listAnswers 10 1 10 6 (piece (0 ∷ 0 ∷ 16001 ∷ 0 ∷ 0 ∷ 1 ∷ []) 1 ∷ []) ≡ no 8 ∷ []
+unfolding runs
+too-far-8 = refl
+
+-- 65 vertices 7.
+vertices-65 : listAnswers 10 1 10 6 (piece (replicate 130 0) 1 ∷ []) ≡ no 7 ∷ []
+unfolding runs
+vertices-65 = refl
+
+-- A mask of 0 gets 9 before the tie's 10, and after the coordinate's 8. A coordinate is asked as lent, before the shift.
+mask-0 : listAnswers 10 1 10 6 (piece tall-tie 0 ∷ piece tall-tie 16 ∷ piece (1 ∷ 0 ∷ 16001 ∷ 0 ∷ 1 ∷ 1 ∷ []) 0 ∷ []) ≡ no 9 ∷ no 9 ∷ no 8 ∷ []
+unfolding runs
+mask-0 = refl
+
+-- The square walked twice has no inside.
+square-twice-11 : listAnswers 10 2 10 6 (piece (S ++ S) 1 ∷ []) ≡ no 11 ∷ []
+unfolding runs
+square-twice-11 = refl
+
+-- 12 asks for the allowed turn that has most runs: T has three in turn 0 and two in turn 1.
+T-work : listAnswers 3 1 10 6 (lent T 3 8 ∷ lent T 2 5 ∷ lent T 2 6 ∷ lent T 3 9 ∷ []) ≡ no 12 ∷ no 12 ∷ at 1 0 0 ∷ at 1 2 0 ∷ []
+unfolding runs
+T-work = refl
+
+-- Last column, not right edge: 3 by 4 at R 4 ends in column 0 in both turns, and the lower top wins.
+lower-top : listAnswers 10 4 10 6 (piece (0 ∷ 0 ∷ 3 ∷ 0 ∷ 3 ∷ 4 ∷ 0 ∷ 4 ∷ []) 3 ∷ []) ≡ at 1 0 0 ∷ []
+unfolding runs
+lower-top = refl
+
+-- Equal last column and top: the least turn wins.
+lesser-turn : listAnswers 10 2 10 6 (piece S 12 ∷ []) ≡ at 2 0 0 ∷ []
+unfolding runs
+lesser-turn = refl
+
+-- A hole is filled: in the frame's opening the bar lies at height 1, below what is already there.
+frame-then-bar : listAnswers 5 3 2 6 (piece (0 ∷ 0 ∷ 6 ∷ 0 ∷ 6 ∷ 1 ∷ 3 ∷ 1 ∷ 3 ∷ 4 ∷ 6 ∷ 4 ∷ 6 ∷ 5 ∷ 0 ∷ 5 ∷ []) 1 ∷ piece (0 ∷ 0 ∷ 3 ∷ 0 ∷ 3 ∷ 2 ∷ 0 ∷ 2 ∷ []) 1 ∷ []) ≡ at 0 0 0 ∷ at 0 1 1 ∷ []
+unfolding runs
+frame-then-bar = refl
+
+-- Joining frees records: on a full strip the bar that closes the frame's gap passes 14 with fewer runs than before.
+joined-14 : listAnswers 5 3 2 3 (piece (0 ∷ 0 ∷ 6 ∷ 0 ∷ 6 ∷ 1 ∷ 3 ∷ 1 ∷ 3 ∷ 4 ∷ 6 ∷ 4 ∷ 6 ∷ 5 ∷ 0 ∷ 5 ∷ []) 1 ∷ piece (0 ∷ 0 ∷ 3 ∷ 0 ∷ 3 ∷ 3 ∷ 0 ∷ 3 ∷ []) 1 ∷ []) ≡ at 0 0 0 ∷ at 0 1 1 ∷ []
+unfolding runs
+joined-14 = refl
+
+-- A spur must fit on the strip and may lie over other pieces.
+spur-fits : listAnswers 4 2 3 6 (piece spur 1 ∷ piece spur 1 ∷ piece spur 1 ∷ piece S 1 ∷ []) ≡ at 0 0 0 ∷ at 0 0 2 ∷ no 13 ∷ at 0 1 0 ∷ []
+unfolding runs
+spur-fits = refl
+
+-- Strips.
+
+-- Opening: 3, 4 (Q from 1 to 16,000), and the words of one opened strip.
+open-numbers : openAnswer 0 1 6 30 ∷ openAnswer 16001 1 6 30 ∷ openAnswer 2 401 6 30 ∷ openAnswer 2 1 4097 4105 ∷ openAnswer 2 1 6 10 ∷ openAnswer 2 1 6 13 ∷ openAnswer 2 1 6 64014 ∷ openAnswer 2 1 6 64010 ∷ openAnswer 2 1 6 14 ∷ [] ≡ NotOpened (refusal 3 0) ∷ NotOpened (refusal 3 0) ∷ NotOpened (refusal 3 0) ∷ NotOpened (refusal 3 0) ∷ NotOpened (refusal 4 0) ∷ NotOpened (refusal 4 0) ∷ NotOpened (refusal 4 0) ∷ Opened ∷ Opened ∷ []
+unfolding runs
+open-numbers = refl
+
+opened-words : openedStrip 2 1 2 14 ≡ 2 ∷ 1 ∷ 2 ∷ 1 ∷ 0 ∷ 0 ∷ 2 ∷ 0 ∷ 0 ∷ 2 ∷ 2 ∷ 0 ∷ 0 ∷ 0 ∷ []
+unfolding runs
+opened-words = refl
+
+-- What T leaves on W 2, R 1, N 3, Q 3: well formed, its own runs.
+T-strip : placedStrip (openedStrip 2 1 3 19) T (at 0 0 0) ≡ 2 ∷ 1 ∷ 3 ∷ 0 ∷ 1 ∷ 2 ∷ 3 ∷ 0 ∷ 0 ∷ 1 ∷ 0 ∷ 1 ∷ 0 ∷ 2 ∷ 0 ∷ 2 ∷ 0 ∷ 2 ∷ 0 ∷ []
+unfolding runs
+T-strip = refl
+
+-- Well formed: the records in another order, the free one between them.
+other-order : wellFormedb (9 ∷ 1 ∷ 2 ∷ 2 ∷ 3 ∷ 0 ∷ 0 ∷ 5 ∷ 7 ∷ 0 ∷ 2 ∷ 0 ∷ 0 ∷ 0 ∷ 0 ∷ 1 ∷ 4 ∷ 1 ∷ []) ≡ true
+unfolding runs
+other-order = refl
+
+-- Not well formed: runs that touch; a chain that loops; a record in no chain; a free record with a high; high above W; no words.
+touching : wellFormedb (9 ∷ 1 ∷ 2 ∷ 2 ∷ 3 ∷ 0 ∷ 0 ∷ 4 ∷ 7 ∷ 0 ∷ 2 ∷ 0 ∷ 0 ∷ 0 ∷ 0 ∷ 1 ∷ 4 ∷ 1 ∷ []) ≡ false
+unfolding runs
+touching = refl
+
+looping : wellFormedb (9 ∷ 1 ∷ 2 ∷ 2 ∷ 3 ∷ 0 ∷ 0 ∷ 5 ∷ 7 ∷ 3 ∷ 2 ∷ 0 ∷ 0 ∷ 0 ∷ 0 ∷ 1 ∷ 4 ∷ 1 ∷ []) ≡ false
+unfolding runs
+looping = refl
+
+in-no-chain : wellFormedb (9 ∷ 1 ∷ 2 ∷ 0 ∷ 3 ∷ 0 ∷ 0 ∷ 5 ∷ 7 ∷ 0 ∷ 2 ∷ 0 ∷ 0 ∷ 0 ∷ 0 ∷ 1 ∷ 4 ∷ 1 ∷ []) ≡ false
+unfolding runs
+in-no-chain = refl
+
+free-with-high : wellFormedb (9 ∷ 1 ∷ 2 ∷ 2 ∷ 3 ∷ 0 ∷ 0 ∷ 5 ∷ 7 ∷ 0 ∷ 2 ∷ 0 ∷ 1 ∷ 0 ∷ 0 ∷ 1 ∷ 4 ∷ 1 ∷ []) ≡ false
+unfolding runs
+free-with-high = refl
+
+high-above : wellFormedb (6 ∷ 1 ∷ 2 ∷ 2 ∷ 3 ∷ 0 ∷ 0 ∷ 5 ∷ 7 ∷ 0 ∷ 2 ∷ 0 ∷ 0 ∷ 0 ∷ 0 ∷ 1 ∷ 4 ∷ 1 ∷ []) ≡ false
+unfolding runs
+high-above = refl
+
+no-words : placeAnswer [] T 1 30 ≡ Refused (refusal 5 0)
+unfolding runs
+no-words = refl
+
+-- Cover.
+
+-- S in turn 2: two runs, six words, the rest kept; one word short is 12, and a refusal keeps all.
+cover-square : coverOutput S 2 2 (9 ∷ 9 ∷ 9 ∷ 9 ∷ 9 ∷ 9 ∷ 9 ∷ 9 ∷ []) (coverAnswer S 2 2 8) ≡ 0 ∷ 0 ∷ 4 ∷ 1 ∷ 0 ∷ 4 ∷ 9 ∷ 9 ∷ []
+unfolding runs
+cover-square = refl
+
+cover-numbers : coverAnswer S 2 2 6 ∷ coverAnswer S 2 2 5 ∷ coverAnswer S 4 2 6 ∷ coverAnswer S 4 0 6 ∷ coverAnswer wide-tie 1 1 9 ∷ [] ≡ Runs 2 ∷ NotCovered (refusal 12 1) ∷ NotCovered (refusal 9 1) ∷ NotCovered (refusal 3 0) ∷ NotCovered (refusal 10 1) ∷ []
+unfolding runs
+cover-numbers = refl
+
+cover-refused : coverOutput S 2 2 (9 ∷ 9 ∷ []) (coverAnswer S 2 2 2) ≡ 9 ∷ 9 ∷ []
+unfolding runs
+cover-refused = refl
+
+-- Sheets.
+
+-- 201 pieces 6.
+pieces-201 : writeAnswer 10 2 10 (201 ∷ []) 1000 ≡ NotWritten (refusal 6 0)
+unfolding runs
+pieces-201 = refl
+
+-- The bytes of a sheet with one piece: T with mask 3.
+T-sheet : sheetBytes 300 1 10 (record { mask = 3; outline = T } ∷ []) ≡ 0x4e ∷ 0x4a ∷ 1 ∷ 0 ∷ 44 ∷ 1 ∷ 1 ∷ 0 ∷ 10 ∷ 0 ∷ 1 ∷ 0 ∷ 3 ∷ 0 ∷ 1 ∷ 0 ∷ 0 ∷ 0 ∷ 0 ∷ 0 ∷ 2 ∷ 0 ∷ 3 ∷ 0 ∷ 0 ∷ 0 ∷ 3 ∷ 0 ∷ 3 ∷ 0 ∷ 2 ∷ 0 ∷ 0 ∷ 0 ∷ 1 ∷ 0 ∷ 3 ∷ 0 ∷ 0 ∷ 0 ∷ []
+unfolding runs
+T-sheet = refl
+
+-- The three squares: the sheet that is written reads back as the list; words past it are kept.
+written-three : readOutput (writeOutput 10 2 10 (listWords three) (replicate 106 7) (Written 106)) (replicate 33 5) (readAnswer (writeOutput 10 2 10 (listWords three) (replicate 106 7) (Written 106)) 33) ≡ listWords three ++ (5 ∷ 5 ∷ [])
+unfolding runs three
+written-three = refl
+
+read-three : readAnswer (sheetBytes 10 2 10 three) 31 ∷ readAnswer (sheetBytes 10 2 10 three) 30 ∷ readAnswer (take 105 (sheetBytes 10 2 10 three)) 31 ∷ readAnswer (take 15 (sheetBytes 10 2 10 three)) 31 ∷ [] ≡ Read (record { width = 10; resolution = 2; columns = 10 }) ∷ NotRead (refusal 15 0) ∷ NotRead (refusal 2 0) ∷ NotRead (refusal 1 0) ∷ []
+unfolding runs three
+read-three = refl
+
+-- Its size, and a buffer one byte short.
+size-three : writeAnswer 10 2 10 (listWords three) 106 ∷ writeAnswer 10 2 10 (listWords three) 105 ∷ [] ≡ Written 106 ∷ NotWritten (refusal 15 0) ∷ []
+unfolding runs three
+size-three = refl
+
+-- A piece's numbers carry its place, and 11 of piece 1 comes before 7 of piece 2, whose words are missing.
+piece-by-piece : writeAnswer 10 2 10 (2 ∷ 3 ∷ 1 ∷ flat) 999 ∷ writeAnswer 10 2 10 (2 ∷ 3 ∷ 1 ∷ T) 999 ∷ [] ≡ NotWritten (refusal 11 1) ∷ NotWritten (refusal 7 2) ∷ []
+unfolding runs
+piece-by-piece = refl
+
+-- Laying.
+
+-- The printed example: its totals, its output, its text.
+lay-three : layAnswer (sheetBytes 10 2 10 three) 38 12 30 ≡ Laid (record { placed = 3; used = 4 })
+unfolding runs three
+lay-three = refl
+
+lay-three-output : layOutput (sheetBytes 10 2 10 three) (replicate 13 8) 38 30 (Laid (record { placed = 3; used = 4 })) ≡ 0 ∷ 0 ∷ 0 ∷ 0 ∷ 0 ∷ 0 ∷ 0 ∷ 4 ∷ 0 ∷ 0 ∷ 2 ∷ 0 ∷ 8 ∷ []
+unfolding runs three
+lay-three-output = refl
+
+lay-three-text : layText (sheetBytes 10 2 10 three) ≡ ascii "strip 10 2 10\n1 placed 0 0 0\n2 placed 0 0 4\n3 placed 0 2 0\nused 4 placed 3\n"
+unfolding runs three
+lay-three-text = refl
+
+-- With Q 3 the third gets 14 as its fate, with a short work buffer each gets 12, and the job goes on.
+lay-fates : layOutput (sheetBytes 10 2 10 three) [] 26 30 (layAnswer (sheetBytes 10 2 10 three) 26 12 30) ++ layOutput (sheetBytes 10 2 10 three) [] 26 5 (layAnswer (sheetBytes 10 2 10 three) 26 12 5) ≡ 0 ∷ 0 ∷ 0 ∷ 0 ∷ 0 ∷ 0 ∷ 0 ∷ 4 ∷ 14 ∷ 0 ∷ 0 ∷ 0 ∷ 12 ∷ 0 ∷ 0 ∷ 0 ∷ 12 ∷ 0 ∷ 0 ∷ 0 ∷ 12 ∷ 0 ∷ 0 ∷ 0 ∷ []
+unfolding runs three
+lay-fates = refl
+
+-- 15 and 4 of the job.
+lay-numbers : layAnswer (sheetBytes 10 2 10 three) 38 11 30 ∷ layAnswer (sheetBytes 10 2 10 three) 37 12 30 ∷ [] ≡ NotLaid (refusal 15 0) ∷ NotLaid (refusal 4 0) ∷ []
+unfolding runs three
+lay-numbers = refl
+
+-- A refused piece and a refused job in text: W 3 takes no S; the tie is the second piece.
+refused-text : layText (sheetBytes 3 2 10 (inList T ∷ inList S ∷ [])) ≡ ascii "strip 3 2 10\n1 placed 0 0 0\n2 refused 13\nused 2 placed 1\n"
+unfolding runs
+refused-text = refl
+
+job-refused-text : layText (sheetBytes 10 2 10 (inList S ∷ inList tall-tie ∷ [])) ≡ ascii "job refused 10 2\n"
+unfolding runs
+job-refused-text = refl
+
+-- An empty job prints its strip line, then `used 0 placed 0`. Empty input is 1.
+empty-text : layText (sheetBytes 16000 400 4096 []) ++ layText [] ≡ ascii "strip 16000 400 4096\nused 0 placed 0\njob refused 1 0\n"
+unfolding runs
+empty-text = refl
+
+-- A buffer passed as bytes: two to a word, low byte first; the odd last byte is no part of it and stays.
+as-bytes : wordsIn (1 ∷ 2 ∷ 255 ∷ 255 ∷ 7 ∷ []) ≡ 513 ∷ 65535 ∷ []
+unfolding runs
+as-bytes = refl
+
+left-as-bytes : bytesLeft (1 ∷ 2 ∷ 255 ∷ 255 ∷ 7 ∷ []) (0 ∷ 258 ∷ []) ≡ 0 ∷ 0 ∷ 2 ∷ 1 ∷ 7 ∷ []
+unfolding runs
+left-as-bytes = refl

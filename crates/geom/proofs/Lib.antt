@@ -1,0 +1,17 @@
+pub mod Strip
+pub mod Line
+pub mod Parity
+pub mod Column
+pub mod Scale
+pub mod Cover
+pub mod Cells
+pub mod Rows
+pub mod Computed
+pub mod Stretches
+pub mod Extent
+pub mod PieceCells
+pub mod Shift
+pub mod MovedCells
+pub mod RunLists
+pub mod Counting
+pub mod Checks

@@ -1,0 +1,12 @@
+pub mod Tests
+pub mod Lists
+pub mod Occurs
+pub mod Pigeonhole
+pub mod Questions
+pub mod Turns
+pub mod Order
+pub mod Walks
+pub mod Chains
+pub mod Formed
+pub mod Complete
+pub mod SheetChains

@@ -1,0 +1,10 @@
+pub mod Tables
+pub mod Columns
+pub mod Held
+pub mod Sets
+pub mod Moved
+pub mod Entered
+pub mod Records
+pub mod FreeTest
+pub mod FirstFree
+pub mod Searching

@@ -1,0 +1,321 @@
+//! Prints rows for the definitions: calls on inputs made from a seed, each with
+//! the answer and the buffers that this reference program gives, as theorems
+//! that hold by computation if the definitions say the same.
+//!
+//!     rows SEED COUNT > Rows.antt        COUNT rows of each kind
+//!
+//! Inputs are kept small, since the definitions try every cell and position.
+
+use reference::generate::{
+    any_mask, any_turn, damaged_list, damaged_sheet, damaged_strip, job, outline, small_figures,
+    sound_list, sound_sheet, sound_strip, Damage, ListDamage, OutlineKind, Random, SheetDamage,
+};
+use reference::{cover, lay, lay_text, open, place, read, strip_runs, well_formed, write};
+use reference::{Figures, Position, Refusal};
+
+const HEAD: &str = "\
+-- Rows made by the reference program: each holds by computation if the definitions agree with it.
+-- Assumes nothing.
+use mathlib.Core.Path.{_≡_, refl}
+use mathlib.Core.Bool.{true, false}
+use mathlib.Core.List.{List, [], _∷_}
+use Prim.Native.Nat.{ℕ}
+use Rattle.defs.specs.declared.Position.{Position}
+use Rattle.defs.specs.declared.Opening.the-variants.{Opened, Refused as NotOpened}
+use Rattle.defs.specs.declared.Covering.the-variants.{Runs, Refused as NotCovered}
+use Rattle.defs.specs.declared.Placing.the-variants.{Placed, Refused as NotPlaced}
+use Rattle.defs.specs.declared.Reading.the-variants.{Read, Refused as NotRead}
+use Rattle.defs.specs.declared.Writing.the-variants.{Written, Refused as NotWritten}
+use Rattle.defs.specs.declared.Laying.the-variants.{Laid, Refused as NotLaid}
+use Rattle.defs.specs.Computing.Cells.{Rows}
+use Rattle.defs.specs.Computing.Words.{wellFormedb, columnsRuns}
+use Rattle.defs.specs.Computing.Search.{position}
+use Rattle.defs.specs.Computing.Calls.{refusal, openAnswer, coverAnswer, coverOutput, placeAnswer, placedStrip, listAnswers, Lent}
+use Rattle.defs.specs.Computing.Sheets.{readAnswer, readOutput, writeAnswer, writeOutput}
+use Rattle.defs.specs.Computing.Lay.{layAnswer, layOutput}
+use Rattle.defs.specs.Computing.Ascii.{ascii}
+use Rattle.defs.specs.Computing.Text.{layText}
+use Rattle.defs.specs.Computing.Runs.{runs}
+
+infixl 90 _to_
+abbrev _to_ : ℕ → ℕ → Rows
+_to_ l h = record { low = l; high = h }
+
+abbrev piece : List ℕ → ℕ → ℕ → Lent
+piece o mask words = record { outline = o; mask = mask; words = words }
+";
+
+/// Rows as they are printed, numbered.
+struct Table {
+    rows: usize,
+}
+
+impl Table {
+    fn row(&mut self, computed: &str, given: &str) {
+        self.rows += 1;
+        let name = format!("row-{}", self.rows);
+        println!("\n{name} : {computed} ≡ {given}\nunfolding runs\n{name} = refl");
+    }
+}
+
+/// A list in the definitions' language, of items already written.
+fn list(items: impl IntoIterator<Item = String>) -> String {
+    let mut text = String::from("(");
+    for item in items {
+        text += &item;
+        text += " ∷ ";
+    }
+    text + "[])"
+}
+
+fn numbers<T: Copy + Into<u64>>(words: &[T]) -> String {
+    list(words.iter().map(|&word| word.into().to_string()))
+}
+
+fn refused(case: &str, refusal: Refusal) -> String {
+    format!("{case} (refusal {} {})", refusal.number, refusal.ordinal)
+}
+
+fn placed(answer: Result<Position, Refusal>) -> String {
+    match answer {
+        Ok(p) => format!("Placed (position {} {} {})", p.turn, p.column, p.height),
+        Err(refusal) => refused("NotPlaced", refusal),
+    }
+}
+
+fn columns(strip: &[u16]) -> String {
+    list(
+        strip_runs(strip)
+            .iter()
+            .map(|column| list(column.iter().map(|(low, high)| format!("{low} to {high}")))),
+    )
+}
+
+/// A small outline of any kind, few of them too large to be walked cell by cell.
+fn small_outline(random: &mut Random) -> Vec<u16> {
+    loop {
+        let kind = random.pick(&OutlineKind::ALL);
+        let size = random.word(2, 6);
+        let words = outline(random, kind, size);
+        let far = words.iter().any(|&x| (20..=16_000).contains(&x));
+        if words.len() <= 28 && !far {
+            return words;
+        }
+    }
+}
+
+fn cover_row(random: &mut Random, table: &mut Table) {
+    let outline = small_outline(random);
+    let (turn, r) = (any_turn(random), random.word(0, 4));
+    let mut output = vec![9u16; random.index(24)];
+    let before = numbers(&output);
+    let length = output.len();
+    let answer = match cover(&outline, turn, r, &mut output) {
+        Ok(runs) => format!("Runs {runs}"),
+        Err(refusal) => refused("NotCovered", refusal),
+    };
+    let outline = numbers(&outline);
+    table.row(
+        &format!("coverAnswer {outline} {turn} {r} {length}"),
+        &answer,
+    );
+    let left = format!("coverOutput {outline} {turn} {r} {before} ({answer})");
+    table.row(&left, &numbers(&output));
+}
+
+fn open_row(random: &mut Random, table: &mut Table) {
+    let w = random.pick(&[0u16, 1, 10, 16_000, 16_001, 65_535]);
+    let r = random.pick(&[0u16, 1, 400, 401]);
+    let n = random.pick(&[0u16, 1, 5, 4_096, 4_097]);
+    let length = 4 + usize::from(n) + random.pick(&[0, 3, 4, 5, 40, 64_000, 64_004]);
+    let answer = match open(w, r, n, &mut vec![7u16; length]) {
+        Ok(()) => String::from("Opened"),
+        Err(refusal) => refused("NotOpened", refusal),
+    };
+    table.row(&format!("openAnswer {w} {r} {n} {length}"), &answer);
+}
+
+/// A list of place calls from an opened strip.
+fn list_row(random: &mut Random, table: &mut Table) {
+    let (w, r, n) = (random.word(1, 9), random.word(1, 3), random.word(1, 6));
+    let q = random.word(1, 10);
+    let mut strip = vec![0u16; 4 + usize::from(n) + 4 * usize::from(q)];
+    open(w, r, n, &mut strip).expect("figures in their limits");
+    let (mut calls, mut answers) = (Vec::new(), Vec::new());
+    for _ in 0..random.between(1, 4) {
+        let (outline, mask) = (small_outline(random), any_mask(random));
+        let mut work = vec![1u16; random.index(30) + 8];
+        calls.push(format!("piece {} {mask} {}", numbers(&outline), work.len()));
+        answers.push(placed(place(&mut strip, &outline, mask, &mut work)));
+    }
+    table.row(
+        &format!("listAnswers {w} {r} {n} {q} {}", list(calls)),
+        &list(answers),
+    );
+}
+
+/// One place call on a strip with its records in any order.
+fn place_row(random: &mut Random, table: &mut Table) {
+    let strip = loop {
+        let strip = sound_strip(random);
+        if strip[0] <= 12 && strip.len() <= 40 {
+            break strip;
+        }
+    };
+    let (outline, mask) = (small_outline(random), any_mask(random));
+    let mut after = strip.clone();
+    let mut work = vec![1u16; random.index(30)];
+    let answer = placed(place(&mut after, &outline, mask, &mut work));
+    let (strip, outline) = (numbers(&strip), numbers(&outline));
+    let call = format!("placeAnswer {strip} {outline} {mask} {}", work.len());
+    table.row(&call, &answer);
+    let left = format!("columnsRuns (placedStrip {strip} {outline} ({answer}))");
+    table.row(&left, &columns(&after));
+}
+
+fn strip_row(random: &mut Random, table: &mut Table) {
+    let strip = loop {
+        let strip = match random.index(3) {
+            0 => sound_strip(random),
+            _ => {
+                let damage = random.pick(&Damage::ALL);
+                damaged_strip(random, damage)
+            }
+        };
+        if strip.len() <= 50 && strip.get(2).is_none_or(|&n| n <= 12) {
+            break strip;
+        }
+    };
+    let answer = if well_formed(&strip) { "true" } else { "false" };
+    table.row(&format!("wellFormedb {}", numbers(&strip)), answer);
+}
+
+fn read_row(random: &mut Random, table: &mut Table) {
+    let sheet = loop {
+        let sheet = match random.index(3) {
+            0 => sound_sheet(random),
+            _ => {
+                let damage = random.pick(&SheetDamage::ALL);
+                damaged_sheet(random, damage).bytes
+            }
+        };
+        if sheet.len() <= 200 {
+            break sheet;
+        }
+    };
+    let mut output = vec![9u16; random.index(60)];
+    let before = numbers(&output);
+    let length = output.len();
+    let answer = match read(&sheet, &mut output) {
+        Ok(Figures {
+            width,
+            resolution,
+            columns,
+        }) => {
+            format!("Read (record {{ width = {width}; resolution = {resolution}; columns = {columns} }})")
+        }
+        Err(refusal) => refused("NotRead", refusal),
+    };
+    let sheet = numbers(&sheet);
+    table.row(&format!("readAnswer {sheet} {length}"), &answer);
+    table.row(
+        &format!("readOutput {sheet} {before} ({answer})"),
+        &numbers(&output),
+    );
+}
+
+fn write_row(random: &mut Random, table: &mut Table) {
+    let words = loop {
+        let words = match random.index(2) {
+            0 => sound_list(random),
+            _ => {
+                let damage = random.pick(&ListDamage::ALL);
+                damaged_list(random, damage).words
+            }
+        };
+        if words.len() <= 60 {
+            break words;
+        }
+    };
+    let Figures {
+        width,
+        resolution,
+        columns,
+    } = small_figures(random);
+    let mut output = vec![9u8; random.index(250)];
+    let before = numbers(&output);
+    let length = output.len();
+    let answer = match write(width, resolution, columns, &words, &mut output) {
+        Ok(size) => format!("Written {size}"),
+        Err(refusal) => refused("NotWritten", refusal),
+    };
+    let words = numbers(&words);
+    let figures = format!("{width} {resolution} {columns}");
+    table.row(&format!("writeAnswer {figures} {words} {length}"), &answer);
+    table.row(
+        &format!("writeOutput {figures} {words} {before} ({answer})"),
+        &numbers(&output),
+    );
+}
+
+fn lay_row(random: &mut Random, table: &mut Table) {
+    let job = loop {
+        let job = job(random);
+        let most = job.pieces.iter().flat_map(|p| &p.outline).max();
+        if job.pieces.len() <= 4 && most.is_none_or(|&x| x <= 6) {
+            break job;
+        }
+    };
+    let sheet = job.sheet();
+    let mut strip = vec![3u16; 4 + usize::from(job.figures.columns) + 4 * (random.index(14) + 1)];
+    let mut output =
+        vec![9u16; (4 * job.pieces.len() + random.index(3)).saturating_sub(random.index(2))];
+    let mut work = vec![1u16; random.index(60)];
+    let before = numbers(&output);
+    let lengths = (strip.len(), output.len(), work.len());
+    let answer = match lay(&sheet, &mut strip, &mut output, &mut work) {
+        Ok(totals) => format!(
+            "Laid (record {{ placed = {}; used = {} }})",
+            totals.placed, totals.used
+        ),
+        Err(refusal) => refused("NotLaid", refusal),
+    };
+    let text = lay_text(&sheet);
+    let sheet = numbers(&sheet);
+    table.row(
+        &format!(
+            "layAnswer {sheet} {} {} {}",
+            lengths.0, lengths.1, lengths.2
+        ),
+        &answer,
+    );
+    let left = format!(
+        "layOutput {sheet} {before} {} {} ({answer})",
+        lengths.0, lengths.2
+    );
+    table.row(&left, &numbers(&output));
+    table.row(&format!("layText {sheet}"), &format!("ascii {text:?}"));
+}
+
+fn main() {
+    let mut arguments = std::env::args()
+        .skip(1)
+        .map(|word| word.parse::<u64>().expect("a number"));
+    let seed = arguments.next().expect("a seed");
+    let count = arguments.next().expect("a count");
+    let mut random = Random::new(seed);
+    let mut table = Table { rows: 0 };
+    print!("{HEAD}");
+    for _ in 0..count {
+        cover_row(&mut random, &mut table);
+        open_row(&mut random, &mut table);
+        list_row(&mut random, &mut table);
+        place_row(&mut random, &mut table);
+        strip_row(&mut random, &mut table);
+        strip_row(&mut random, &mut table);
+        read_row(&mut random, &mut table);
+        write_row(&mut random, &mut table);
+        lay_row(&mut random, &mut table);
+    }
+    eprintln!("{} rows from seed {seed}", table.rows);
+}

@@ -1,0 +1,58 @@
+//! The calls of the C control program on buffers of bytes.
+//!
+//! "The cutter's C control program calls open, place and lay on numbers and
+//! buffers. There a buffer may be passed as bytes, two to a word, low byte
+//! first; an odd last byte is no part of it and stays."
+//!
+//! A sheet is bytes by its own definition, so every byte of it counts.
+
+use crate::figures::{Position, Refusal, Totals};
+
+fn words(bytes: &[u8]) -> Vec<u16> {
+    bytes
+        .chunks_exact(2)
+        .map(|pair| u16::from_le_bytes([pair[0], pair[1]]))
+        .collect()
+}
+
+fn put_back(bytes: &mut [u8], words: &[u16]) {
+    for (pair, word) in bytes.chunks_exact_mut(2).zip(words) {
+        pair.copy_from_slice(&word.to_le_bytes());
+    }
+}
+
+pub fn open_bytes(w: u16, r: u16, n: u16, strip: &mut [u8]) -> Result<(), Refusal> {
+    let mut strip_words = words(strip);
+    let answer = crate::open(w, r, n, &mut strip_words);
+    put_back(strip, &strip_words);
+    answer
+}
+
+pub fn place_bytes(
+    strip: &mut [u8],
+    outline: &[u8],
+    mask: u16,
+    work: &mut [u8],
+) -> Result<Position, Refusal> {
+    let (mut strip_words, mut work_words) = (words(strip), words(work));
+    let answer = crate::place(&mut strip_words, &words(outline), mask, &mut work_words);
+    put_back(strip, &strip_words);
+    put_back(work, &work_words);
+    answer
+}
+
+pub fn lay_bytes(
+    sheet: &[u8],
+    strip: &mut [u8],
+    output: &mut [u8],
+    work: &mut [u8],
+) -> Result<Totals, Refusal> {
+    let mut strip_words = words(strip);
+    let mut output_words = words(output);
+    let mut work_words = words(work);
+    let answer = crate::lay(sheet, &mut strip_words, &mut output_words, &mut work_words);
+    put_back(strip, &strip_words);
+    put_back(output, &output_words);
+    put_back(work, &work_words);
+    answer
+}

@@ -1,0 +1,85 @@
+//! Random jobs of small pieces on small strips, and lists of place calls.
+
+use super::outlines::is_sound;
+use super::{any_mask, any_outline, small_figures, sound_mask, sound_outline, Random, SheetPlan};
+use crate::figures::{Figures, Piece};
+
+#[derive(Clone, Debug)]
+pub struct Job {
+    pub figures: Figures,
+    pub pieces: Vec<Piece>,
+}
+
+impl Job {
+    /// The job as a sheet, with its records in list order.
+    pub fn sheet(&self) -> Vec<u8> {
+        SheetPlan::in_order(self.figures, &self.pieces).bytes()
+    }
+}
+
+/// A job of up to ten small pieces, all of which pass questions 7 to 11.
+pub fn job(random: &mut Random) -> Job {
+    let count = random.index(11);
+    let size = random.word(2, 10);
+    Job {
+        figures: small_figures(random),
+        pieces: sound_pieces(random, count, size),
+    }
+}
+
+/// Pieces that pass questions 7 to 11. Some have the outline of a piece before
+/// them, whole or all but its first vertex.
+pub fn sound_pieces(random: &mut Random, count: usize, size: u16) -> Vec<Piece> {
+    let mut pieces: Vec<Piece> = Vec::new();
+    for _ in 0..count {
+        let mask = sound_mask(random);
+        let mut outline = sound_outline(random, mask, size);
+        if !pieces.is_empty() && random.once_in(3) {
+            let mut related = pieces[random.index(pieces.len())].outline.clone();
+            if random.once_in(2) {
+                related[0] = random.word(0, size);
+            }
+            if is_sound(&related, mask) {
+                outline = related;
+            }
+        }
+        pieces.push(Piece { outline, mask });
+    }
+    pieces
+}
+
+/// One call of a list of place calls.
+#[derive(Clone, Debug)]
+pub struct PlaceCall {
+    pub outline: Vec<u16>,
+    pub mask: u16,
+    /// The length of the work buffer in words.
+    pub work: usize,
+}
+
+/// A list of place calls: "Each call gets any outline, mask and work buffer".
+/// Most have a sound outline of up to this size and work words enough.
+pub fn place_calls(random: &mut Random, count: usize, size: u16) -> Vec<PlaceCall> {
+    (0..count)
+        .map(|_| {
+            let mask = any_mask(random);
+            let small = random.word(2, size);
+            let outline = if random.once_in(8) {
+                any_outline(random)
+            } else {
+                let some_mask = if (1..=15).contains(&mask) { mask } else { 15 };
+                sound_outline(random, some_mask, small)
+            };
+            let work = if random.once_in(8) {
+                random.index(12)
+            } else {
+                9_000
+            };
+            PlaceCall {
+                outline,
+                mask,
+                work,
+            }
+        })
+        .collect()
+}

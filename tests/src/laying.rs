@@ -1,0 +1,97 @@
+//! Laying a whole job, and the text of program `lay`.
+
+use crate::figures::*;
+use crate::outline::{columns_wide, extent, turned, vertices};
+use crate::placing::place;
+use crate::sheet::{ask_1_to_3, piece_chain, pieces_of_sheet};
+use crate::strip::{ask_4, open};
+
+/// "Output is four words a piece: 0 or its number, turn, column, height (zeros
+/// if refused)."
+const ENTRY: usize = 4;
+
+/// "Lay reads a sheet, opens the lent strip and places the pieces in chain
+/// order, going on after a piece that is refused."
+///
+/// "lay 1 to 4, 6 to 11, 15, and 12 to 14 only as a piece's fate"
+pub fn lay(
+    sheet: &[u8],
+    strip: &mut [u16],
+    output: &mut [u16],
+    work: &mut [u16],
+) -> Result<Totals, Refusal> {
+    // "A work buffer is zero after each call."
+    work.fill(0);
+    let figures = ask_1_to_3(sheet)?;
+    ask_4(strip.len(), figures.columns)?;
+    let pieces = pieces_of_sheet(sheet)?;
+    // "15. Does the output buffer hold the output?"
+    if output.len() < ENTRY * pieces.len() {
+        return Err(no(15, 0));
+    }
+    open(figures.width, figures.resolution, figures.columns, strip)?;
+    let mut totals = Totals { placed: 0, used: 0 };
+    for (piece, entry) in pieces.iter().zip(output.chunks_exact_mut(ENTRY)) {
+        match place(strip, &piece.outline, piece.mask, work) {
+            Ok(position) => {
+                entry.copy_from_slice(&[0, position.turn, position.column, position.height]);
+                totals.placed += 1;
+                let end = end_column(piece, &position, figures.resolution);
+                totals.used = totals.used.max(end);
+            }
+            Err(refusal) => entry.copy_from_slice(&[refusal.number, 0, 0, 0]),
+        }
+    }
+    Ok(totals)
+}
+
+/// "one more than the greatest last column": one more than this piece's.
+fn end_column(piece: &Piece, position: &Position, r: u16) -> u16 {
+    let (w, _) = extent(&turned(&vertices(&piece.outline), position.turn));
+    position.column + columns_wide(w, i64::from(r)) as u16
+}
+
+/// "Program `lay` reads a sheet from standard input (Q 4,000, work buffer 9,000
+/// words)." What it prints for the whole of its standard input.
+pub fn lay_text(input: &[u8]) -> String {
+    match lay_with_program_buffers(input) {
+        Ok(text) => text,
+        // "a refused job only `job refused 10 2` (number, ordinal or 0)"
+        Err(refusal) => format!("job refused {} {}\n", refusal.number, refusal.ordinal),
+    }
+}
+
+fn lay_with_program_buffers(sheet: &[u8]) -> Result<String, Refusal> {
+    // N is needed for the strip's length. Where 1, 2 or 3 says no, so would lay
+    // itself, before it asks about the strip.
+    let figures = ask_1_to_3(sheet)?;
+    let mut strip = vec![0; 4 + usize::from(figures.columns) + 4 * 4_000];
+    let mut work = vec![0; 9_000];
+    let mut output = vec![0; ENTRY * MOST_PIECES];
+    let totals = lay(sheet, &mut strip, &mut output, &mut work)?;
+    let piece_count = piece_chain(sheet)?.len();
+    let entries = output.chunks_exact(ENTRY).take(piece_count);
+    Ok(text(&figures, entries, &totals))
+}
+
+/// "Fields: W, R, N; ordinal, turn, column, height; used columns, pieces
+/// placed. A refused piece prints `3 refused 14`"
+fn text<'a>(
+    figures: &Figures,
+    entries: impl Iterator<Item = &'a [u16]>,
+    totals: &Totals,
+) -> String {
+    let mut lines = vec![format!(
+        "strip {} {} {}",
+        figures.width, figures.resolution, figures.columns
+    )];
+    for (place, entry) in entries.enumerate() {
+        let ordinal = place + 1;
+        lines.push(match entry[0] {
+            0 => format!("{ordinal} placed {} {} {}", entry[1], entry[2], entry[3]),
+            number => format!("{ordinal} refused {number}"),
+        });
+    }
+    lines.push(format!("used {} placed {}", totals.used, totals.placed));
+    lines.iter().map(|line| format!("{line}\n")).collect()
+}

@@ -1,0 +1,28 @@
+//! A reference program for document 01, the box-board nesting engine.
+//!
+//! It is written straight from the sentences of the paper, which are quoted
+//! above the functions that state them, and it prefers the plain way to the
+//! quick one. All arithmetic is exact: whole numbers and products of whole
+//! numbers. Two places have a quicker form beside the plain one, the cells an
+//! outline covers ([`cells`]) and the search for a position ([`placing`]); the
+//! tests compare the two forms.
+//!
+//! Module [`generate`] makes inputs of every kind, good and bad, from a seed.
+
+pub mod bytes;
+pub mod cells;
+pub mod figures;
+pub mod generate;
+pub mod laying;
+pub mod outline;
+pub mod placing;
+pub mod questions;
+pub mod sheet;
+pub mod strip;
+
+pub use cells::{cover, runs};
+pub use figures::{Figures, Piece, Position, Refusal, Totals};
+pub use laying::{lay, lay_text};
+pub use placing::place;
+pub use sheet::{read, write};
+pub use strip::{open, same_strip, strip_runs, well_formed};

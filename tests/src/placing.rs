@@ -1,0 +1,229 @@
+//! Positions, the search for the best one, and the place call.
+
+use crate::cells::{runs_of, stretches, Run};
+use crate::figures::*;
+use crate::outline::*;
+use crate::questions::*;
+use crate::strip::{put_runs, strip_runs, well_formed, Stretch};
+
+/// A piece in one turn: its extent and its runs.
+#[derive(Clone, Debug)]
+pub struct TurnedPiece {
+    pub turn: u16,
+    pub w: i64,
+    pub h: i64,
+    pub runs: Vec<Run>,
+}
+
+/// The strip of one place call: W, R, N and the runs of each column.
+#[derive(Clone, Debug)]
+pub struct Board {
+    pub w: i64,
+    pub r: i64,
+    pub n: i64,
+    pub columns: Vec<Vec<Stretch>>,
+}
+
+/// Column c and height y.
+pub type Spot = (i64, i64);
+
+pub fn turned_piece(outline: &[u16], turn: u16, r: i64) -> TurnedPiece {
+    let outline = turned(&vertices(outline), turn);
+    let (w, h) = extent(&outline);
+    let runs = runs_of(&outline, r);
+    TurnedPiece { turn, w, h, runs }
+}
+
+/// The board of a well-formed strip.
+pub fn board_of(strip: &[u16]) -> Board {
+    Board {
+        w: i64::from(strip[0]),
+        r: i64::from(strip[1]),
+        n: i64::from(strip[2]),
+        columns: strip_runs(strip),
+    }
+}
+
+/// The columns c "with c + w/R rounded up ≤ N", from 0.
+fn columns_to_try(board: &Board, piece: &TurnedPiece) -> std::ops::RangeInclusive<i64> {
+    0..=board.n - columns_wide(piece.w, board.r)
+}
+
+/// The heights y with "y + h ≤ W", from 0.
+fn heights_to_try(board: &Board, piece: &TurnedPiece) -> std::ops::RangeInclusive<i64> {
+    0..=board.w - piece.h
+}
+
+// ---------------------------------------------------------------- plain form
+
+/// "For one place call alone, a cell is occupied if a run of the lent strip
+/// holds it."
+pub fn is_occupied(board: &Board, column: i64, row: i64) -> bool {
+    board.columns[column as usize]
+        .iter()
+        .any(|&(low, high)| i64::from(low) <= row && row < i64::from(high))
+}
+
+/// "A position is free if no covered cell of the moved piece is occupied."
+pub fn is_free_plain(board: &Board, piece: &TurnedPiece, (c, y): Spot) -> bool {
+    piece
+        .runs
+        .iter()
+        .all(|&(column, low, high)| (low..high).all(|row| !is_occupied(board, c + column, y + row)))
+}
+
+/// "Each turn takes its least free (c, y)": c first, then y. Tries every
+/// position.
+pub fn least_free_plain(board: &Board, piece: &TurnedPiece) -> Option<Spot> {
+    for c in columns_to_try(board, piece) {
+        for y in heights_to_try(board, piece) {
+            if is_free_plain(board, piece, (c, y)) {
+                return Some((c, y));
+            }
+        }
+    }
+    None
+}
+
+// -------------------------------------------------------------- quicker form
+
+/// The same answer: for each column, strikes out every height at which some run
+/// of the piece overlaps some run of the strip, and takes the least one left.
+pub fn least_free(board: &Board, piece: &TurnedPiece) -> Option<Spot> {
+    for c in columns_to_try(board, piece) {
+        if let Some(y) = least_height(board, piece, c) {
+            return Some((c, y));
+        }
+    }
+    None
+}
+
+fn least_height(board: &Board, piece: &TurnedPiece, c: i64) -> Option<i64> {
+    let heights = heights_to_try(board, piece);
+    if heights.is_empty() {
+        return None;
+    }
+    let most = *heights.end();
+    // clashes[y] minus clashes[y-1] for each y: how many more pairs of runs
+    // overlap at y than one lower.
+    let mut more = vec![0i64; most as usize + 2];
+    for &(column, low, high) in &piece.runs {
+        for &(taken_low, taken_high) in &board.columns[(c + column) as usize] {
+            // They overlap when low + y < taken_high and taken_low < high + y.
+            let first = (i64::from(taken_low) - high + 1).max(0);
+            let last = (i64::from(taken_high) - low - 1).min(most);
+            if first <= last {
+                more[first as usize] += 1;
+                more[last as usize + 1] -= 1;
+            }
+        }
+    }
+    let mut clashes = 0;
+    for y in heights {
+        clashes += more[y as usize];
+        if clashes == 0 {
+            return Some(y);
+        }
+    }
+    None
+}
+
+// -------------------------------------------------------------------- choice
+
+/// "Last column is c + (w/R rounded up) − 1"
+pub fn last_column(piece: &TurnedPiece, (c, _): Spot, r: i64) -> i64 {
+    c + columns_wide(piece.w, r) - 1
+}
+
+/// "top is y + h"
+pub fn top(piece: &TurnedPiece, (_, y): Spot) -> i64 {
+    y + piece.h
+}
+
+/// "among turns the least last column wins, then least top, then least turn"
+pub fn best<'a>(
+    board: &Board,
+    pieces: &'a [TurnedPiece],
+    search: fn(&Board, &TurnedPiece) -> Option<Spot>,
+) -> Option<(&'a TurnedPiece, Spot)> {
+    pieces
+        .iter()
+        .filter_map(|piece| search(board, piece).map(|spot| (piece, spot)))
+        .min_by_key(|&(piece, spot)| {
+            (
+                last_column(piece, spot, board.r),
+                top(piece, spot),
+                piece.turn,
+            )
+        })
+}
+
+/// "the piece's cells are added, touching runs joined": the runs of each column
+/// after placing.
+pub fn runs_after(board: &Board, piece: &TurnedPiece, (c, y): Spot) -> Vec<Vec<Stretch>> {
+    let mut columns = board.columns.clone();
+    for runs in piece.runs.chunk_by(|a, b| a.0 == b.0) {
+        let column = &mut columns[(c + runs[0].0) as usize];
+        let mut rows = vec![false; board.w as usize];
+        for &(low, high) in column.iter() {
+            rows[usize::from(low)..usize::from(high)].fill(true);
+        }
+        for &(_, low, high) in runs {
+            rows[(y + low) as usize..(y + high) as usize].fill(true);
+        }
+        *column = stretches(&rows)
+            .into_iter()
+            .map(|(low, high)| (low as u16, high as u16))
+            .collect();
+    }
+    columns
+}
+
+// ---------------------------------------------------------------------- call
+
+/// "Place takes strip, outline, mask and a work buffer of words, and answers
+/// turn, column, height"
+///
+/// "place 5, 7 to 14"
+pub fn place(
+    strip: &mut [u16],
+    outline: &[u16],
+    mask: u16,
+    work: &mut [u16],
+) -> Result<Position, Refusal> {
+    // "A work buffer is zero after each call." Only its length is used here.
+    work.fill(0);
+    // "5. Is the strip well formed?"
+    if !well_formed(strip) {
+        return Err(no(5, 0));
+    }
+    ask_7_of_lent_outline(outline)?;
+    let allowed = ask_8_to_11(outline, turns_of_mask(mask), 1)?;
+    let board = board_of(strip);
+    let pieces: Vec<TurnedPiece> = allowed
+        .iter()
+        .map(|&turn| turned_piece(outline, turn, board.r))
+        .collect();
+    // "12. Has the buffer (cover's output, else the work buffer) three words
+    // for each run of the allowed turn that has most runs?"
+    let most_runs = pieces.iter().map(|piece| piece.runs.len()).max();
+    if work.len() < 3 * most_runs.unwrap_or(0) {
+        return Err(no(12, 1));
+    }
+    // "13. Is there a free position?"
+    let Some((piece, spot)) = best(&board, &pieces, least_free) else {
+        return Err(no(13, 1));
+    };
+    // "14. Are the strip's runs after placing at most Q?"
+    let columns = runs_after(&board, piece, spot);
+    let q = (strip.len() - 4 - board.n as usize) / 4;
+    if columns.iter().map(Vec::len).sum::<usize>() > q {
+        return Err(no(14, 1));
+    }
+    put_runs(strip, strip[0], strip[1], strip[2], &columns);
+    Ok(Position {
+        turn: piece.turn,
+        column: spot.0 as u16,
+        height: spot.1 as u16,
+    })
+}

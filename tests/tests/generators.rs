@@ -1,0 +1,213 @@
+//! The generators make what they say, and the same from the same seed.
+
+mod common;
+use common::*;
+use reference::cells::runs_of;
+use reference::generate::outlines::is_sound;
+use reference::generate::*;
+use reference::outline::{extent, some_edges_change_order, turned, vertices};
+use reference::well_formed;
+use std::collections::HashSet;
+
+#[test]
+fn the_same_seed_gives_the_same() {
+    let make = |seed| {
+        let mut random = Random::new(seed);
+        (
+            any_outline(&mut random),
+            sound_strip(&mut random),
+            sound_list(&mut random),
+            sound_sheet(&mut random),
+        )
+    };
+    assert_eq!(make(1), make(1));
+    assert_ne!(make(1), make(2));
+    // The first numbers of splitmix64 from seed 0.
+    let mut random = Random::new(0);
+    assert_eq!(random.next(), 0xE220_A839_7B1D_CDAF);
+    assert_eq!(random.next(), 0x6E78_9E6A_A1B9_65F4);
+}
+
+#[test]
+fn each_kind_is_listed_once() {
+    let names = |all: &[String]| all.iter().cloned().collect::<HashSet<_>>().len();
+    let kinds = OutlineKind::ALL.map(|kind| format!("{kind:?}"));
+    assert_eq!(names(&kinds), OutlineKind::ALL.len());
+    let damages = Damage::ALL.map(|damage| format!("{damage:?}"));
+    assert_eq!(names(&damages), Damage::ALL.len());
+    let damages = ListDamage::ALL.map(|damage| format!("{damage:?}"));
+    assert_eq!(names(&damages), ListDamage::ALL.len());
+    let damages = SheetDamage::ALL.map(|damage| format!("{damage:?}"));
+    assert_eq!(names(&damages), SheetDamage::ALL.len());
+}
+
+#[test]
+fn outlines_are_of_their_kind() {
+    for kind in OutlineKind::ALL {
+        for seed in 0..60 {
+            let mut random = Random::new(seed);
+            let size = random.word(2, 40);
+            let words = outline(&mut random, kind, size);
+            check_kind(kind, &words, size);
+        }
+    }
+}
+
+fn check_kind(kind: OutlineKind, words: &[u16], size: u16) {
+    let good_length = words.len() % 2 == 0 && (6..=128).contains(&words.len());
+    assert_eq!(good_length, kind != OutlineKind::WrongLength, "{words:?}");
+    if !good_length {
+        return;
+    }
+    let over = words.iter().any(|&word| word > 16_000);
+    assert_eq!(over, kind == OutlineKind::OverLimit, "{words:?}");
+    if over {
+        return;
+    }
+    if kind == OutlineKind::AtLimit {
+        assert_eq!(extent(&vertices(words)), (16_000, 16_000));
+    } else {
+        assert!(words.iter().all(|&word| word <= size), "{kind:?} {words:?}");
+    }
+    let outline = turned(&vertices(words), 0);
+    let has_cells = !runs_of(&outline, 1).is_empty();
+    let crossed = |turn| some_edges_change_order(&turned(&outline, turn));
+    match kind {
+        OutlineKind::Rectangle => assert!(is_sound(words, 15)),
+        OutlineKind::Triangle => assert!((0..4).all(|turn| !crossed(turn))),
+        OutlineKind::FullStar | OutlineKind::FullRandomWalk => assert_eq!(words.len(), 128),
+        OutlineKind::LatticeWalk => assert!((0..4).all(|turn| !crossed(turn))),
+        OutlineKind::WalkedTwice | OutlineKind::ThereAndBack | OutlineKind::Flat => {
+            assert!(!has_cells, "{words:?}");
+        }
+        OutlineKind::WalkedThrice => {
+            let once = turned(&vertices(&words[..words.len() / 3]), 0);
+            assert_eq!(runs_of(&outline, 1), runs_of(&once, 1));
+        }
+        OutlineKind::BowTieBetween => assert!(has_cells && crossed(0) && crossed(2)),
+        OutlineKind::BowTieWhole => assert!(has_cells && !crossed(0) && !crossed(2)),
+        OutlineKind::Zigzag => {
+            assert!(is_sound(words, 15), "{words:?}");
+            assert_eq!(words.len() == 128, size >= 64);
+        }
+        _ => {}
+    }
+}
+
+#[test]
+fn a_zigzag_has_64_vertices_if_there_is_room() {
+    let mut random = Random::new(1);
+    for size in [64, 100, 1_000, 16_000] {
+        let words = outline(&mut random, OutlineKind::Zigzag, size);
+        assert_eq!(words.len(), 128);
+    }
+}
+
+/// Each of the questions 7 to 11 is answered no, and all yes, often enough.
+#[test]
+fn outlines_of_every_fate() {
+    let mut numbers = [0; 16];
+    let mut random = Random::new(9);
+    for _ in 0..600 {
+        let kind = random.pick(&OutlineKind::ALL);
+        let size = random.word(2, 12);
+        let words = outline(&mut random, kind, size);
+        let turn = any_turn(&mut random);
+        let answer = check_cover(&words, turn, 1, 40_000);
+        numbers[answer.map_or_else(|refusal| usize::from(refusal.number), |_| 0)] += 1;
+    }
+    for number in [0, 7, 8, 9, 10, 11] {
+        assert!(numbers[number] > 15, "{number}: {numbers:?}");
+    }
+}
+
+#[test]
+fn sound_outlines_are_sound() {
+    for seed in 0..300 {
+        let mut random = Random::new(seed);
+        let (mask, size) = (sound_mask(&mut random), random.word(2, 30));
+        let words = sound_outline(&mut random, mask, size);
+        let mut strip = opened(16_000, 1, 4_096, 16_000);
+        let answer = check_place(&mut strip, &words, mask, 10_000);
+        assert!(answer.is_ok(), "{answer:?} {words:?}");
+    }
+}
+
+#[test]
+fn sound_strips_are_well_formed_and_varied() {
+    let (mut full, mut empty) = (0, 0);
+    for seed in 0..500 {
+        let mut random = Random::new(seed);
+        let strip = sound_strip(&mut random);
+        assert!(well_formed(&strip));
+        let free = strip[3] != 0;
+        let used = reference::strip_runs(&strip)
+            .iter()
+            .any(|runs| !runs.is_empty());
+        full += usize::from(!free);
+        empty += usize::from(!used);
+    }
+    assert!(full > 10 && empty > 10, "{full} {empty}");
+}
+
+#[test]
+fn damaged_strips_are_ill_formed() {
+    for damage in Damage::ALL {
+        for seed in 0..300 {
+            let mut random = Random::new(1_000 + seed);
+            let strip = damaged_strip(&mut random, damage);
+            assert!(!well_formed(&strip), "{damage:?} {seed}");
+        }
+    }
+}
+
+/// A strip with one damage mended is well formed: nothing else was wrong.
+#[test]
+fn damages_of_the_leading_words_are_the_only_ones() {
+    let mends: [(Damage, usize, u16); 4] = [
+        (Damage::WidthZero, 0, 1),
+        (Damage::WidthOver, 0, 16_000),
+        (Damage::ResolutionZero, 1, 1),
+        (Damage::ResolutionOver, 1, 400),
+    ];
+    for (damage, place, word) in mends {
+        for seed in 0..50 {
+            let mut random = Random::new(seed);
+            let mut strip = damaged_strip(&mut random, damage);
+            strip[place] = word;
+            assert!(well_formed(&strip), "{damage:?} {seed}");
+        }
+    }
+}
+
+#[test]
+fn figures_in_and_out_of_limits() {
+    let (mut good, mut bad) = (0, 0);
+    for seed in 0..500 {
+        let mut random = Random::new(seed);
+        let of = any_figures(&mut random);
+        let length = strip_length(of.columns, 1);
+        match check_open(of.width, of.resolution, of.columns, length) {
+            Ok(_) => good += 1,
+            Err(refusal) => {
+                assert_eq!(refusal, no(3, 0));
+                bad += 1;
+            }
+        }
+        let of = small_figures(&mut random);
+        let length = strip_length(of.columns, 1);
+        assert!(check_open(of.width, of.resolution, of.columns, length).is_ok());
+    }
+    assert!(good > 100 && bad > 100, "{good} {bad}");
+}
+
+#[test]
+fn sound_lists_and_sheets_pass() {
+    for seed in 0..300 {
+        let mut random = Random::new(seed);
+        assert!(check_write((10, 2, 10), &sound_list(&mut random), 9_000).is_ok());
+        assert!(check_read(&sound_sheet(&mut random), 9_000).is_ok());
+        let job = job(&mut random);
+        assert!(check_read(&job.sheet(), 9_000).is_ok());
+    }
+}

@@ -1,0 +1,171 @@
+//! Where several questions say no, the first in the call's order answers.
+//!
+//! "Order: rising, 7 to 11 piece by piece"
+
+mod common;
+use common::*;
+
+/// A bow tie walked twice: its edges change order, and it has no inside.
+const CROSSED_TWICE: [u16; 16] = [0, 0, 1, 2, 1, 0, 0, 2, 0, 0, 1, 2, 1, 0, 0, 2];
+
+/// CROSSED with a coordinate of 16,001: (0,0) (1,2) (1,0) (0,16001).
+const CROSSED_FAR: [u16; 8] = [0, 0, 1, 2, 1, 0, 0, 16_001];
+
+#[test]
+fn cover_in_order() {
+    let odd = &FAR[..5];
+    assert_eq!(check_cover(odd, 4, 0, 0), Err(no(3, 0)));
+    assert_eq!(check_cover(odd, 4, 2, 0), Err(no(7, 1)));
+    assert_eq!(check_cover(&[0, 0, 16_001], 0, 2, 9), Err(no(7, 1)));
+    assert_eq!(check_cover(&CROSSED_FAR, 4, 2, 0), Err(no(8, 1)));
+    assert_eq!(check_cover(&CROSSED_FAR, 0, 2, 0), Err(no(8, 1)));
+    assert_eq!(check_cover(&CROSSED, 4, 2, 0), Err(no(9, 1)));
+    assert_eq!(check_cover(&FLAT, 4, 2, 0), Err(no(9, 1)));
+    assert_eq!(check_cover(&CROSSED_TWICE, 0, 2, 0), Err(no(10, 1)));
+    assert_eq!(check_cover(&CROSSED_TWICE, 1, 2, 0), Err(no(11, 1)));
+    assert_eq!(check_cover(&FLAT, 0, 2, 0), Err(no(11, 1)));
+    assert_eq!(check_cover(&S, 0, 2, 0), Err(no(12, 1)));
+}
+
+#[test]
+fn open_3_before_4() {
+    assert_eq!(check_open(0, 2, 10, 0), Err(no(3, 0)));
+    assert_eq!(check_open(10, 2, 0, 0), Err(no(3, 0)));
+    assert_eq!(check_open(10, 2, 4_097, 4 + 4_096 + 4), Err(no(3, 0)));
+}
+
+#[test]
+fn place_in_order() {
+    let mut good = opened(3, 2, 10, 1);
+    let mut bad = good.clone();
+    bad[0] = 0;
+    assert_eq!(check_place(&mut bad, &FAR[..5], 0, 0), Err(no(5, 0)));
+    assert_eq!(check_place(&mut bad, &S, 1, 90), Err(no(5, 0)));
+    assert_eq!(check_place(&mut good, &FAR[..5], 0, 0), Err(no(7, 1)));
+    assert_eq!(check_place(&mut good, &[16_001; 4], 1, 0), Err(no(7, 1)));
+    assert_eq!(check_place(&mut good, &FAR, 0, 0), Err(no(8, 1)));
+    assert_eq!(check_place(&mut good, &CROSSED_FAR, 1, 0), Err(no(8, 1)));
+    assert_eq!(check_place(&mut good, &CROSSED, 0, 0), Err(no(9, 1)));
+    assert_eq!(check_place(&mut good, &FLAT, 16, 0), Err(no(9, 1)));
+    assert_eq!(
+        check_place(&mut good, &CROSSED_TWICE, 15, 0),
+        Err(no(10, 1))
+    );
+    assert_eq!(check_place(&mut good, &CROSSED_TWICE, 2, 0), Err(no(11, 1)));
+    assert_eq!(check_place(&mut good, &FLAT, 1, 0), Err(no(11, 1)));
+    // S is higher than the strip and has too many runs for it, too.
+    assert_eq!(check_place(&mut good, &S, 1, 0), Err(no(12, 1)));
+    assert_eq!(check_place(&mut good, &S, 1, 6), Err(no(13, 1)));
+    let mut strip = opened(4, 2, 10, 1);
+    assert_eq!(check_place(&mut strip, &S, 1, 6), Err(no(14, 1)));
+}
+
+#[test]
+fn read_in_order() {
+    // First bytes, length, W, piece chain, pieces and output are all wrong.
+    let of: [(&[u16], u16); 2] = [(&S[..4], 0), (&FAR, 0)];
+    let mut plan = plan(0, 2, 10, &of);
+    plan.pieces[1][2] = 9;
+    let mut first = plan.bytes();
+    first.push(0);
+    first[0] = 0;
+    assert_eq!(check_read(&first, 0), Err(no(1, 0)));
+    first[0] = 0x4E;
+    assert_eq!(check_read(&first, 0), Err(no(2, 0)));
+    assert_eq!(check_read(&plan.bytes(), 0), Err(no(3, 0)));
+    plan.figures.width = 10;
+    assert_eq!(check_read(&plan.bytes(), 0), Err(no(6, 0)));
+    plan.pieces[1][2] = 0;
+    assert_eq!(check_read(&plan.bytes(), 0), Err(no(7, 1)));
+}
+
+/// Pairs of pieces that are both wrong: the first piece's number answers,
+/// whatever the second one's.
+#[test]
+fn seven_to_eleven_piece_by_piece() {
+    let two_vertices: &[u16] = &S[..4];
+    let wrong: [(&[u16], u16, u16); 5] = [
+        (two_vertices, 1, 7),
+        (&FAR, 1, 8),
+        (&S, 0, 9),
+        (&CROSSED, 1, 10),
+        (&FLAT, 1, 11),
+    ];
+    for first in wrong {
+        for second in wrong {
+            let of = [(&T[..], 1), (first.0, first.1), (second.0, second.1)];
+            let sheet = sheet(10, 2, 10, &of);
+            let expected = no(first.2, 2);
+            assert_eq!(check_read(&sheet, 0), Err(expected));
+            assert_eq!(check_lay(&sheet, [18, 0, 0]), Err(expected));
+            assert_eq!(check_write((10, 2, 10), &list(&of), 0), Err(expected));
+        }
+    }
+}
+
+/// "B3": the mask comes before the coordinates in a list and is still asked
+/// after them.
+#[test]
+fn eight_before_nine_before_ten() {
+    for (outline, number) in [(&FAR[..], 8), (&CROSSED_FAR, 8), (&CROSSED, 9), (&FLAT, 9)] {
+        let of = [(outline, 0)];
+        let sheet = sheet(10, 2, 10, &of);
+        assert_eq!(check_read(&sheet, 90), Err(no(number, 1)));
+        assert_eq!(check_write((10, 2, 10), &list(&of), 90), Err(no(number, 1)));
+        assert_eq!(check_lay(&sheet, [18, 90, 90]), Err(no(number, 1)));
+        let mut strip = opened(10, 2, 10, 1);
+        assert_eq!(check_place(&mut strip, outline, 0, 90), Err(no(number, 1)));
+    }
+}
+
+/// The whole vertex chain passes 7 before a coordinate is asked 8.
+#[test]
+fn seven_of_the_whole_piece_before_eight() {
+    let mut plan = plan(10, 2, 10, &[(&FAR, 1)]);
+    plan.vertices[2][2] = 9;
+    assert_eq!(check_read(&plan.bytes(), 90), Err(no(7, 1)));
+    let words = list(&[(&FAR, 1)]);
+    assert_eq!(check_write((10, 2, 10), &words[..8], 90), Err(no(7, 1)));
+}
+
+#[test]
+fn write_in_order() {
+    assert_eq!(check_write((0, 2, 10), &[], 0), Err(no(3, 0)));
+    assert_eq!(check_write((10, 2, 10), &[201, 0], 0), Err(no(6, 0)));
+    assert_eq!(check_write((10, 2, 10), &[1], 0), Err(no(7, 1)));
+    // 200 pieces of 64 vertices are too much for a sheet, but 6 to 11 of every
+    // piece come before the size, and the size before the output.
+    let outline = sixty_four_vertices();
+    let mut of = vec![(&outline[..], 1); 200];
+    assert_eq!(check_write((10, 2, 10), &list(&of), 0), Err(no(2, 0)));
+    of[199] = (&FLAT, 1);
+    assert_eq!(check_write((10, 2, 10), &list(&of), 0), Err(no(11, 200)));
+    of[199] = (&FAR, 1);
+    assert_eq!(check_write((10, 2, 10), &list(&of), 0), Err(no(8, 200)));
+    let most = list(&vec![(&outline[..], 1); 168]);
+    assert_eq!(check_write((10, 2, 10), &most, 0), Err(no(15, 0)));
+    assert_eq!(check_write((10, 2, 10), &most, 65_535), Err(no(15, 0)));
+}
+
+#[test]
+fn lay_in_order() {
+    let of: [(&[u16], u16); 2] = [(&S, 1), (&FLAT, 1)];
+    let mut plan = plan(10, 2, 0, &of);
+    plan.first_piece = 9;
+    assert_eq!(check_lay(&plan.bytes()[..15], [0, 0, 0]), Err(no(1, 0)));
+    assert_eq!(check_lay(&plan.bytes()[..17], [0, 0, 0]), Err(no(2, 0)));
+    assert_eq!(check_lay(&plan.bytes(), [0, 0, 0]), Err(no(3, 0)));
+    plan.figures.columns = 10;
+    assert_eq!(check_lay(&plan.bytes(), [0, 0, 0]), Err(no(4, 0)));
+    assert_eq!(check_lay(&plan.bytes(), [18, 0, 0]), Err(no(6, 0)));
+    plan.first_piece = 1;
+    assert_eq!(check_lay(&plan.bytes(), [0, 0, 0]), Err(no(4, 0)));
+    assert_eq!(check_lay(&plan.bytes(), [18, 0, 0]), Err(no(11, 2)));
+    // 15 of the whole job before 12 to 14 of any piece.
+    let job = sheet(10, 2, 10, &[(&S, 1)]);
+    assert_eq!(check_lay(&job, [18, 3, 0]), Err(no(15, 0)));
+    let laid = check_lay(&job, [18, 4, 0]).unwrap();
+    assert_eq!(laid.output, [12, 0, 0, 0]);
+    let laid = check_lay(&job, [18, 4, 6]).unwrap();
+    assert_eq!(laid.output, [14, 0, 0, 0]);
+}
