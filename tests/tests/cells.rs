@@ -337,7 +337,7 @@ fn several_runs_in_a_column() {
 /// rises 500 units each time: up along its lower edge, down along its upper one.
 /// It crosses itself near each bend, 16 or 32 units away, a whole x.
 fn band(thickness: u16) -> Vec<u16> {
-    let side = |level: u16| if level % 2 == 0 { 0 } else { 16_000 };
+    let side = |level: u16| if level.is_multiple_of(2) { 0 } else { 16_000 };
     let up = (0..32).flat_map(|level| [side(level), 500 * level]);
     let down = (0..32)
         .rev()

@@ -24,8 +24,8 @@ fn the_same_seed_gives_the_same() {
     assert_ne!(make(1), make(2));
     // The first numbers of splitmix64 from seed 0.
     let mut random = Random::new(0);
-    assert_eq!(random.next(), 0xE220_A839_7B1D_CDAF);
-    assert_eq!(random.next(), 0x6E78_9E6A_A1B9_65F4);
+    assert_eq!(random.number(), 0xE220_A839_7B1D_CDAF);
+    assert_eq!(random.number(), 0x6E78_9E6A_A1B9_65F4);
 }
 
 #[test]
@@ -54,7 +54,7 @@ fn outlines_are_of_their_kind() {
 }
 
 fn check_kind(kind: OutlineKind, words: &[u16], size: u16) {
-    let good_length = words.len() % 2 == 0 && (6..=128).contains(&words.len());
+    let good_length = words.len().is_multiple_of(2) && (6..=128).contains(&words.len());
     assert_eq!(good_length, kind != OutlineKind::WrongLength, "{words:?}");
     if !good_length {
         return;

@@ -132,3 +132,20 @@ fn the_strip_lent_to_lay_need_not_be_well_formed() {
     check_place(&mut expected, &S, 1, 6).unwrap();
     assert!(same_strip(&strip, &expected));
 }
+
+/// The most pieces a job can have: 200 unit squares fill 20 columns of width 10
+/// one after another.
+#[test]
+fn a_job_of_200_pieces() {
+    let unit = rectangle(1, 1);
+    let mut expected = String::from("strip 10 1 20\n");
+    for place in 0..200 {
+        let (column, height) = (place / 10, place % 10);
+        expected += &format!("{} placed 0 {column} {height}\n", place + 1);
+    }
+    expected += "used 20 placed 200\n";
+    assert_eq!(
+        lay_text(&sheet(10, 1, 20, &[(&unit[..], 1); 200])),
+        expected
+    );
+}

@@ -103,8 +103,8 @@ fn seven_to_eleven_piece_by_piece() {
     }
 }
 
-/// "B3": the mask comes before the coordinates in a list and is still asked
-/// after them.
+/// The mask comes before the coordinates in a list and is still asked after
+/// them.
 #[test]
 fn eight_before_nine_before_ten() {
     for (outline, number) in [(&FAR[..], 8), (&CROSSED_FAR, 8), (&CROSSED, 9), (&FLAT, 9)] {

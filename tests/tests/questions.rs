@@ -223,7 +223,7 @@ fn place_14() {
 // ---------------------------------------------------------------------- read
 
 /// Sound pieces, and one of these at place 2.
-fn at_place_2<'a>(bad: &'a [u16], mask: u16) -> [(&'a [u16], u16); 3] {
+fn at_place_2(bad: &[u16], mask: u16) -> [(&[u16], u16); 3] {
     [(&S, 1), (bad, mask), (&T, 1)]
 }
 

@@ -1,4 +1,5 @@
-//! The places of document 01 that are easily read in another way.
+//! The places of document 01 that are easily read in another way. Each name
+//! begins with the place's label in the list of readings.
 
 mod common;
 use common::*;

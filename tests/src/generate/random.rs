@@ -10,7 +10,7 @@ impl Random {
         Random { state: seed }
     }
 
-    pub fn next(&mut self) -> u64 {
+    pub fn number(&mut self) -> u64 {
         self.state = self.state.wrapping_add(0x9E37_79B9_7F4A_7C15);
         let mut z = self.state;
         z = (z ^ (z >> 30)).wrapping_mul(0xBF58_476D_1CE4_E5B9);
@@ -21,13 +21,13 @@ impl Random {
     /// A place in something of this length, which is at least 1.
     pub fn index(&mut self, length: usize) -> usize {
         assert!(length >= 1);
-        (self.next() % length as u64) as usize
+        (self.number() % length as u64) as usize
     }
 
     /// A number from least to most, both included.
     pub fn between(&mut self, least: i64, most: i64) -> i64 {
         assert!(least <= most);
-        least + (self.next() % (most - least + 1) as u64) as i64
+        least + (self.number() % (most - least + 1) as u64) as i64
     }
 
     /// The same in 16 bits.
