@@ -5,3 +5,4 @@ pub mod Fates
 pub mod Passing
 pub mod Apart
 pub mod Whole
+pub mod CoverCells

@@ -117,20 +117,20 @@ module _
     rank a = countTo (λ g. S g && not (mid a g)) n
 
     -- lower in the middle: not higher at the sides, and strictly lower at one
-    sides-of :
+    pub sides-of :
         (i j : ℕ) → S i ≡ true → S j ≡ true → mid i j ≡ true → (H0 i * W j ≤ H0 j * W i) × (H1 i * W j ≤ H1 j * W i) × ((H0 i * W j < H0 j * W i) ⊎ (H1 i * W j < H1 j * W i))
     sides-of i j si sj h =
         let l : (H0 i + H1 i) * W j < (H0 j + H1 j) * W i = ltb-true _ _ h in
         let k = keeps (H0 i * W j) (H1 i * W j) (H0 j * W i) (H1 j * W i) 1 1 (ord j i sj si) (ord i j si sj) (omega arith) in
         (k .0, k .1, ⊎-elim inl (λ a. inr (omega arith)) (lt-or-le (H0 i * W j) (H0 j * W i)))
 
-    lower-at : (i j u v : ℕ) → 0 < u → 0 < v → S i ≡ true → S j ≡ true → mid i j ≡ true → (u * H0 i + v * H1 i) * W j < (u * H0 j + v * H1 j) * W i
+    pub lower-at : (i j u v : ℕ) → 0 < u → 0 < v → S i ≡ true → S j ≡ true → mid i j ≡ true → (u * H0 i + v * H1 i) * W j < (u * H0 j + v * H1 j) * W i
     lower-at i j u v up vp si sj h =
         let s = sides-of i j si sj h in
         omega (arith, strictly (H0 i * W j) (H1 i * W j) (H0 j * W i) (H1 j * W i) u v up vp (s .0) (s .1) (s .2))
 
     -- lower somewhere inside: lower in the middle
-    mid-of : (i j u v : ℕ) → S i ≡ true → S j ≡ true → (u * H0 i + v * H1 i) * W j < (u * H0 j + v * H1 j) * W i → mid i j ≡ true
+    pub mid-of : (i j u v : ℕ) → S i ≡ true → S j ≡ true → (u * H0 i + v * H1 i) * W j < (u * H0 j + v * H1 j) * W i → mid i j ≡ true
     mid-of i j u v si sj h = go (H0 i * W j) (H1 i * W j) (H0 j * W i) (H1 j * W i) (omega arith) (ord j i sj si) (ord i j si sj) (omega arith) (omega arith)
       where
         go :

@@ -18,10 +18,10 @@ use Rattle.geom.proofs.Stretches.{no-rows}
 use Rattle.geom.proofs.RunLists.{Apart, place, place-of, stretch-is-run, run-is-stretch}
 
 -- the number of stretch k of column i: stretches are numbered column by column
-numberOf : List (List Rows) → ℕ → ℕ → ℕ
+unfoldable pub numberOf : List (List Rows) → ℕ → ℕ → ℕ
 numberOf held i k = countRuns (take i held) + k
 
-number-below : (held : List (List Rows)) (i k : ℕ) → k < length (getD held i []) → numberOf held i k < countRuns held
+pub number-below : (held : List (List Rows)) (i k : ℕ) → k < length (getD held i []) → numberOf held i k < countRuns held
 unfolding numberOf countRuns
 number-below [] i k l = absurd (omega arith)
 number-below (c ∷ cs) zero k l = omega arith
@@ -37,11 +37,11 @@ number-differs (c ∷ cs) (suc i) k zero k' l l' e = absurd (omega arith)
 number-differs (c ∷ cs) (suc i) k (suc i') k' l l' e = omega (arith, number-differs cs i k i' k' l l' (omega arith))
 
 -- the stretch with number a: its column, and its index there
-spot : List (List Rows) → ℕ → ℕ × ℕ
+pub spot : List (List Rows) → ℕ → ℕ × ℕ
 spot [] a = (0, 0)
 spot (c ∷ cs) a = cond (ltb a (length c)) (0, a) (suc (spot cs (a - length c) .0), spot cs (a - length c) .1)
 
-spot-number : (held : List (List Rows)) (a : ℕ) → a < countRuns held →
+pub spot-number : (held : List (List Rows)) (a : ℕ) → a < countRuns held →
     (spot held a .1 < length (getD held (spot held a .0) [])) × (numberOf held (spot held a .0) (spot held a .1) ≡ a)
 unfolding spot numberOf countRuns
 spot-number [] a l = absurd (omega arith)
@@ -54,7 +54,7 @@ some-stretch [] j e = absurd (no-rows j e)
 some-stretch (r ∷ rs) j e = omega arith
 
 -- what `getD` finds past the end of a list
-abbrev none : Rows
+abbrev pub none : Rows
 none = record { low = 0; high = 0 }
 
 -- C has the cells that are held.

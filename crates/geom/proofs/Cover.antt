@@ -32,10 +32,10 @@ module _ (o : List ℕ) (k : ℕ) where
   abbrev pub W : ℕ → ℕ
   W i = width (edgeAt o i)
 
-  S-spans : (i : ℕ) → S i ≡ true → spans (edgeAt o i) k ≡ true
+  pub S-spans : (i : ℕ) → S i ≡ true → spans (edgeAt o i) k ≡ true
   S-spans i h = and-right (ltb i (sides o)) _ h
 
-  S-below : (i : ℕ) → S i ≡ true → i < sides o
+  pub S-below : (i : ℕ) → S i ≡ true → i < sides o
   S-below i h = ltb-true _ _ (and-left (ltb i (sides o)) _ h)
 
   pub positive : (i : ℕ) → S i ≡ true → 0 < W i

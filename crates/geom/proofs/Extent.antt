@@ -43,7 +43,7 @@ after-below n i h = go (eqb (i + 1) n) refl
     go true e = omega arith
     go false e = omega (arith, eqb-false (i + 1) n e)
 
-at-most : (f : ℕ → ℕ) (n i : ℕ) → i < n → f i ≤ greatest f n
+pub at-most : (f : ℕ → ℕ) (n i : ℕ) → i < n → f i ≤ greatest f n
 unfolding greatest
 at-most f zero i h = absurd (omega arith)
 at-most f (suc n) i h =
@@ -60,7 +60,7 @@ edge-bounded v i l =
 mean-at-most : (h yl yr a b w : ℕ) → yl ≤ h → yr ≤ h → a + b ≡ w → yl * a + yr * b ≤ h * w
 mean-at-most h yl yr a b w l r e = omega (arith, mul-le-mul-right a l, mul-le-mul-right b r, ap (λ (n : ℕ). h * n) e)
 
-height-at-most : (w h k : ℕ) (e : Edge) → Bounded w h e → spans e k ≡ true → (height e k 1 ≤ h * width e) × (height e (k + 1) 1 ≤ h * width e)
+pub height-at-most : (w h k : ℕ) (e : Edge) → Bounded w h e → spans e k ≡ true → (height e k 1 ≤ h * width e) × (height e (k + 1) 1 ≤ h * width e)
 unfolding height
 height-at-most w h k e b s =
     let l = leb-true (e .xl) k (and-left _ _ s) in
@@ -94,6 +94,12 @@ covered-within v keeps some R i j c =
 pub rounded-up : (w R i : ℕ) → 1 ≤ R → i * R < w → i < columnsFor w R
 rounded-up w R i Rpos h =
     lt-of-mul-lt-mul-right R (omega (arith, div-add-mod (w + (R - 1)) R, mod-lt (w + (R - 1)) Rpos))
+
+-- a column that begins at w or later is past the last one
+pub rounded-end : (w R i : ℕ) → 1 ≤ R → w ≤ i * R → columnsFor w R ≤ i
+rounded-end w R i Rpos h =
+    ⊎-elim (λ l. absurd (omega (arith, mul-le-mul-right R l, div-add-mod (w + (R - 1)) R))) (λ l. l)
+    (lt-or-le i (columnsFor w R))
 
 pub length-outline : (f g : ℕ → ℕ) (k n : ℕ) → length (outlineFrom f g k n) ≡ 2 * n
 unfolding outlineFrom

@@ -14,4 +14,6 @@ pub mod Shift
 pub mod MovedCells
 pub mod RunLists
 pub mod Counting
+pub mod RunWords
 pub mod Checks
+pub mod OneTurn

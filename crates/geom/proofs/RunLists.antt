@@ -150,7 +150,15 @@ module _ (d : Rows) where
   stretch-from b (r ∷ rs) zero a l = (a .0, a .1)
   stretch-from b (r ∷ rs) (suc k) a l = omega (arith, stretch-from (r .high + 1) rs k (a .2) (omega arith))
 
-  among-at : (rs : List Rows) (k j : ℕ) → k < length rs → getD rs k d .low ≤ j → j < getD rs k d .high → Among rs j
+  -- a stretch ends below the next one
+  pub stretches-rise : (b : ℕ) (rs : List Rows) (k : ℕ) → ApartFrom b rs → suc k < length rs →
+      getD rs k d .high < getD rs (suc k) d .low
+  unfolding ApartFrom
+  stretches-rise b [] k a l = absurd (omega arith)
+  stretches-rise b (r ∷ rs) zero a l = omega (arith, stretch-from (r .high + 1) rs 0 (a .2) (omega arith))
+  stretches-rise b (r ∷ rs) (suc k) a l = stretches-rise (r .high + 1) rs k (a .2) (omega arith)
+
+  pub among-at : (rs : List Rows) (k j : ℕ) → k < length rs → getD rs k d .low ≤ j → j < getD rs k d .high → Among rs j
   unfolding Among
   among-at [] k j l x y = absurd (omega arith)
   among-at (r ∷ rs) zero j l x y = inl (x, y)
@@ -168,7 +176,7 @@ module _ (d : Rows) where
       (λ t. none-beside (r .high + 1) rs k j (a .2) (omega arith) t) c
 
   -- the place of a row is the index of its stretch
-  place-holds : (b : ℕ) (rs : List Rows) (j : ℕ) → ApartFrom b rs → Among rs j →
+  pub place-holds : (b : ℕ) (rs : List Rows) (j : ℕ) → ApartFrom b rs → Among rs j →
       (place rs j < length rs) × (getD rs (place rs j) d .low ≤ j) × (j < getD rs (place rs j) d .high)
   unfolding ApartFrom Among place
   place-holds b [] j a c = absurd c

@@ -1,5 +1,6 @@
 pub mod Tests
 pub mod Lists
+pub mod Stores
 pub mod Occurs
 pub mod Pigeonhole
 pub mod Questions

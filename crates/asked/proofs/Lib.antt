@@ -1,0 +1,3 @@
+pub mod OneColumn
+pub mod AllowedTurns
+pub mod InOrder

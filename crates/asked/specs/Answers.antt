@@ -1,0 +1,27 @@
+-- What the answers to questions 7 to 11 mean. A cell is covered at one resolution exactly when one is at each other, so an answer
+-- holds for every resolution.
+-- Assumes nothing.
+use mathlib.Core.Path.{_≡_}
+use mathlib.Core.Bool.{Bool}
+use mathlib.Core.List.{List}
+use Prim.Native.Nat.{ℕ, _≤_, _<_}
+use Rattle.defs.specs.Meaning.Turn.{Allows}
+use Rattle.defs.specs.Computing.Cells.{pieceRuns, countRuns}
+use Rattle.defs.specs.Computing.Calls.{q11b, outlineNo}
+use Rattle.laws.proofs.Tests.{Decides}
+
+-- turn t has a run
+pub record HasCell (o : List ℕ) (t : ℕ) (r : Bool) : Type 0 where
+  pub every : (R : ℕ) → 1 ≤ R → Decides r (0 < countRuns (pieceRuns o t R))
+
+-- turn t is allowed and has a run
+pub record AllowedCell (o : List ℕ) (mask t : ℕ) (r : Bool) : Type 0 where
+  pub every : (R : ℕ) → 1 ≤ R → Decides r (Allows mask t × (0 < countRuns (pieceRuns o t R)))
+
+-- the answer to question 11
+pub record SomeCell (o : List ℕ) (mask : ℕ) (r : Bool) : Type 0 where
+  pub every : (R : ℕ) → 1 ≤ R → r ≡ q11b o mask R
+
+-- the first of 7 to 11 that gets "no", else 0
+pub record FirstNo (o : List ℕ) (ninth : Bool) (mask r : ℕ) : Type 0 where
+  pub every : (R : ℕ) → 1 ≤ R → r ≡ outlineNo o ninth mask R

@@ -1,0 +1,97 @@
+// Questions 7 to 11 of one outline.
+
+ghost use Prim.Native.Nat.{_≤_};
+ghost use Rattle.defs.specs.Meaning.Outline.{KeepsOrder};
+ghost use Rattle.defs.specs.Meaning.Turn.{turned};
+ghost use Rattle.defs.specs.Meaning.Question.{Question10};
+ghost use Rattle.outline.specs.Vertex.{Lent, BoundsOf};
+ghost use Rattle.asked.specs.Answers.{HasCell, AllowedCell, SomeCell, FirstNo};
+use column::Section;
+use outline::Bounds;
+
+// Whether a cell is covered in turn t: all of the outline as one column has a run.
+pub fn has_cell(o: &[u16], b: Bounds, t: u16) -> bool
+    requires { ⌜ Lent (now o) ⌝ ∗ ⌜ BoundsOf (now o) (b .left) (b .right) (b .foot) (b .head) ⌝ ∗ ⌜ t ≤ 3 ⌝
+        ∗ ⌜ KeepsOrder (turned (now o) t) ⌝ }
+    ensures { λ r. ⌜ HasCell (now (o .entry)) t r ⌝ }
+{
+    let e = outline::extent_of(o, b, t);
+    let mut h0 = [0u64; numbers::MOST_VERTICES];
+    let mut h1 = [0u64; numbers::MOST_VERTICES];
+    let mut w = [0u64; numbers::MOST_VERTICES];
+    let mut g0 = [0u64; numbers::MOST_VERTICES];
+    let mut g1 = [0u64; numbers::MOST_VERTICES];
+    let mut lows = [0u16; numbers::RUN_ROOM];
+    let mut highs = [0u16; numbers::RUN_ROOM];
+    let s = Section {
+        start: 0,
+        end: 0,
+        count: 0,
+    };
+    let f = column::column(
+        o,
+        b,
+        t,
+        0,
+        e.w,
+        s,
+        &mut h0,
+        &mut h1,
+        &mut w,
+        &mut g0,
+        &mut g1,
+        &mut lows,
+        &mut highs,
+    );
+    f.runs != 0
+}
+
+// Whether turn t is allowed and a cell is covered in it.
+fn allowed_cell(o: &[u16], b: Bounds, mask: u16, t: u16) -> bool
+    requires { ⌜ Lent (now o) ⌝ ∗ ⌜ BoundsOf (now o) (b .left) (b .right) (b .foot) (b .head) ⌝ ∗ ⌜ t ≤ 3 ⌝
+        ∗ ⌜ Question10 (now o) mask ⌝ }
+    ensures { λ r. ⌜ AllowedCell (now (o .entry)) mask t r ⌝ }
+{
+    if checks::allows(mask, t) {
+        return has_cell(o, b, t);
+    }
+    false
+}
+
+// Question 11: whether a cell is covered in an allowed turn.
+pub fn some_cell(o: &[u16], b: Bounds, mask: u16) -> bool
+    requires { ⌜ Lent (now o) ⌝ ∗ ⌜ BoundsOf (now o) (b .left) (b .right) (b .foot) (b .head) ⌝ ∗ ⌜ Question10 (now o) mask ⌝ }
+    ensures { λ r. ⌜ SomeCell (now (o .entry)) mask r ⌝ }
+{
+    let mut t = 0;
+    while t < 4 {
+        if allowed_cell(o, b, mask, t) {
+            return true;
+        }
+        t += 1;
+    }
+    false
+}
+
+// The first of questions 7 to 11 that gets "no", else 0. `ninth` is the answer to 9.
+pub fn outline_no(o: &[u16], ninth: bool, mask: u16) -> u16
+    ensures { λ r. ⌜ FirstNo (now (o .entry)) ninth mask r ⌝ }
+{
+    if !checks::seven(o) {
+        return 7;
+    }
+    if !checks::eight(o) {
+        return 8;
+    }
+    if !ninth {
+        return 9;
+    }
+    let b = outline::bounds_of(o);
+    if !checks::all_keep_order(o, b, mask) {
+        return 10;
+    }
+    if !some_cell(o, b, mask) {
+        return 11;
+    }
+    0
+}

@@ -1,0 +1,4 @@
+pub mod Pairs
+pub mod Words
+pub mod Columns
+pub mod Copies

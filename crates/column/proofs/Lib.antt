@@ -1,0 +1,5 @@
+pub mod Adding
+pub mod Parts
+pub mod Units
+pub mod Cuts
+pub mod Columns

@@ -1,0 +1,118 @@
+-- The first question of 7 to 10 that gets "no", by the tests that were made.
+-- Assumes nothing.
+use mathlib.Core.Path.{_≡_, refl, sym, ap, _∙_}
+use mathlib.Core.Bool.{Bool, true, false, cond}
+use mathlib.Core.List.{List}
+use Prim.Native.Nat.{ℕ, _*_, _^_, _≤_, _<_}
+use native.Mathlib.Omega.{arith}
+use lib.Dec.{leb, ltb, eqb}
+use borrow.Author.Tests.{le-leb, lt-leb, lt-ltb, leb-true}
+use Rattle.defs.specs.Meaning.Turn.{turned, extentX}
+use Rattle.defs.specs.Computing.Test.{ask}
+use Rattle.defs.specs.Computing.Cells.{keepsOrderb, pieceRuns, countRuns}
+use Rattle.defs.specs.Computing.Words.{resolutionb}
+use Rattle.defs.specs.Computing.Calls.{refusal, q7b, q8b, outlineNo, coverAnswer}
+use Rattle.defs.specs.declared.Covering.the-variants.{Runs, Refused as NotCovered}
+use Rattle.laws.proofs.Tests.{pos-not-zero}
+use Rattle.geom.proofs.OneTurn.{orders-one, cell-one, room-one}
+use Rattle.cover.specs.Turn.{turnNo}
+
+module _ (o : List ℕ) (t : ℕ) where
+  pub no-7 : q7b o ≡ false → 7 ≡ turnNo o t
+  unfolding turnNo
+  no-7 a = rw a
+
+  pub no-8 : q7b o ≡ true → q8b o ≡ false → 8 ≡ turnNo o t
+  unfolding turnNo
+  no-8 a b = rw (a, b)
+
+  pub no-9 : q7b o ≡ true → q8b o ≡ true → 3 < t → 9 ≡ turnNo o t
+  unfolding turnNo
+  no-9 a b c = rw (a, b, lt-leb t 3 c)
+
+  pub no-10 : q7b o ≡ true → q8b o ≡ true → t ≤ 3 → keepsOrderb (turned o t) (extentX o t) ≡ false → 10 ≡ turnNo o t
+  unfolding turnNo
+  no-10 a b c d = rw (a, b, le-leb t 3 c, d)
+
+  pub no-none : q7b o ≡ true → q8b o ≡ true → t ≤ 3 → keepsOrderb (turned o t) (extentX o t) ≡ true → 0 ≡ turnNo o t
+  unfolding turnNo
+  no-none a b c d = rw (a, b, le-leb t 3 c, d)
+
+-- none of them got "no"
+pub record Passed (o : List ℕ) (t : ℕ) : Type 0 where
+  pub seven : q7b o ≡ true
+  pub eight : q8b o ≡ true
+  pub nine : t ≤ 3
+  pub ten : keepsOrderb (turned o t) (extentX o t) ≡ true
+
+pub passed : (o : List ℕ) (t : ℕ) → 0 ≡ turnNo o t → Passed o t
+unfolding turnNo
+passed o t e = go (q7b o) (q8b o) (leb t 3) (keepsOrderb (turned o t) (extentX o t)) refl refl refl refl e
+  where
+    go : (a b c d : Bool) → q7b o ≡ a → q8b o ≡ b → leb t 3 ≡ c → keepsOrderb (turned o t) (extentX o t) ≡ d →
+        _≡_ {A = ℕ} 0 (ask a 7 λ _. ask b 8 λ _. ask c 9 λ _. ask d 10 λ _. 0) → Passed o t
+    go false b c d ea eb ec ed q = absurd (omega arith)
+    go true false c d ea eb ec ed q = absurd (omega arith)
+    go true true false d ea eb ec ed q = absurd (omega arith)
+    go true true true false ea eb ec ed q = absurd (omega arith)
+    go true true true true ea eb ec ed q = record { seven = ea; eight = eb; nine = leb-true t 3 ec; ten = ed }
+
+-- What cover answers, by the first of 7 to 10 that gets "no" and the number of runs.
+module _ (o : List ℕ) (t R words : ℕ) where
+  outline-by-turn :
+      outlineNo o (leb t 3) (2 ^ t) R ≡
+      cond (eqb (turnNo o t) 0) (ask (ltb 0 (countRuns (pieceRuns o t R))) 11 λ _. 0) (turnNo o t)
+  unfolding outlineNo turnNo
+  outline-by-turn =
+      go (q7b o) (q8b o) (leb t 3) refl
+      (λ h. orders-one o t (leb-true t 3 h)) (λ h. cell-one o R t (leb-true t 3 h))
+    where
+      go : (a b c : Bool) {d d' e e' : Bool} → leb t 3 ≡ c → (leb t 3 ≡ true → d ≡ d') → (leb t 3 ≡ true → e ≡ e') →
+          _≡_ {A = ℕ} (ask a 7 λ _. ask b 8 λ _. ask c 9 λ _. ask d 10 λ _. ask e 11 λ _. 0)
+          (cond (eqb (ask a 7 λ _. ask b 8 λ _. ask c 9 λ _. ask d' 10 λ _. 0) 0) (ask e' 11 λ _. 0)
+          (ask a 7 λ _. ask b 8 λ _. ask c 9 λ _. ask d' 10 λ _. 0))
+      go false b c q f g = refl
+      go true false c q f g = refl
+      go true true false q f g = refl
+      go true true true {d' = false} q f g = rw (f q)
+      go true true true {d' = true} q f g = rw (f q, g q)
+
+  pub cover-3 : resolutionb R ≡ false → NotCovered (refusal 3 0) ≡ coverAnswer o t R words
+  unfolding coverAnswer
+  cover-3 e = rw e
+
+  pub cover-no : {n : ℕ} → resolutionb R ≡ true → n ≡ turnNo o t → 0 < n → NotCovered (refusal n 1) ≡ coverAnswer o t R words
+  unfolding coverAnswer
+  cover-no {n} e f h = rw (e, outline-by-turn, ← f, pos-not-zero n h, pos-not-zero n h)
+
+  pub cover-11 : resolutionb R ≡ true → 0 ≡ turnNo o t → countRuns (pieceRuns o t R) ≡ 0 →
+      NotCovered (refusal 11 1) ≡ coverAnswer o t R words
+  unfolding coverAnswer
+  cover-11 e f h = rw (e, outline-by-turn, ← f, h)
+
+  pub cover-12 : resolutionb R ≡ true → 0 ≡ turnNo o t → 0 < countRuns (pieceRuns o t R) →
+      words < 3 * countRuns (pieceRuns o t R) → NotCovered (refusal 12 1) ≡ coverAnswer o t R words
+  unfolding coverAnswer
+  cover-12 e f h l =
+      rw (
+        e,
+        outline-by-turn,
+        ← f,
+        lt-ltb 0 (countRuns (pieceRuns o t R)) h,
+        room-one o R words t (passed o t f .nine),
+        lt-leb (3 * countRuns (pieceRuns o t R)) words l,
+      )
+
+  pub cover-runs : {k : ℕ} → resolutionb R ≡ true → 0 ≡ turnNo o t → k ≡ countRuns (pieceRuns o t R) → 0 < k → 3 * k ≤ words →
+      Runs k ≡ coverAnswer o t R words
+  unfolding coverAnswer
+  cover-runs {k} e f q h l =
+      rw (
+        e,
+        outline-by-turn,
+        ← f,
+        room-one o R words t (passed o t f .nine),
+        ← q,
+        lt-ltb 0 k h,
+        le-leb (3 * k) words l,
+      )

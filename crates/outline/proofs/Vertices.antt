@@ -1,0 +1,146 @@
+-- Bounds, vertices and edges of a turned outline.
+-- Assumes nothing.
+use mathlib.Core.Path.{_≡_, refl, ap, ap₂, sym, subst, _∙_}
+use mathlib.Core.Bool.{Bool, true, false, cond}
+use mathlib.Core.Logic.{_⊎_, inl, inr, ⊎-elim}
+use mathlib.Core.List.{List}
+use Prim.Native.Nat.{ℕ, zero, suc, _+_, _*_, _-_, _/_, _≤_, _<_, min, max}
+use native.Mathlib.Omega.{arith}
+use lib.ListN.{length, getD}
+use lib.Dec.{leb}
+use borrow.Author.Tests.{leb-true, leb-false}
+use Rattle.defs.specs.Meaning.Outline.{vx, vy, sides, after, Edge, edgeAt, edgeBetween}
+use Rattle.defs.specs.Meaning.Turn.{turned}
+use Rattle.laws.proofs.Turns.{leastN, mostN, turn-0-x, turn-0-y, turn-1-x, turn-1-y, turn-2-x, turn-2-y, turn-3-x, turn-3-y}
+use Rattle.geom.proofs.Extent.{sides-turned}
+use Rattle.geom.proofs.Column.{and-last}
+use Rattle.outline.specs.Vertex.{Lent, BoundsOf, VertexOf, SideOf, Small, edgeOf}
+
+pub least-one : (f : ℕ → ℕ) → f 0 ≡ leastN f (1 - 1)
+unfolding leastN
+least-one f = refl
+
+pub most-one : (f : ℕ → ℕ) → f 0 ≡ mostN f (1 - 1)
+unfolding mostN
+most-one f = refl
+
+pub least-more : {a b : ℕ} (f : ℕ → ℕ) (i : ℕ) → 1 ≤ i → a ≡ leastN f (i - 1) → b ≡ min a (f i) → b ≡ leastN f (i + 1 - 1)
+unfolding leastN
+least-more {a} f i h p q =
+    let e : i + 1 - 1 ≡ suc (i - 1) = omega arith in
+    let g : suc (i - 1) ≡ i = omega arith in
+    q ∙ ap (λ (m : ℕ). min m (f i)) p ∙ sym (ap (leastN f) e ∙ ap (λ (x : ℕ). min (leastN f (i - 1)) (f x)) g)
+
+pub most-more : {a b : ℕ} (f : ℕ → ℕ) (i : ℕ) → 1 ≤ i → a ≡ mostN f (i - 1) → b ≡ max a (f i) → b ≡ mostN f (i + 1 - 1)
+unfolding mostN
+most-more {a} f i h p q =
+    let e : i + 1 - 1 ≡ suc (i - 1) = omega arith in
+    let g : suc (i - 1) ≡ i = omega arith in
+    q ∙ ap (λ (m : ℕ). max m (f i)) p ∙ sym (ap (mostN f) e ∙ ap (λ (x : ℕ). max (mostN f (i - 1)) (f x)) g)
+
+least-at : (f : ℕ → ℕ) (n i : ℕ) → i < suc n → leastN f n ≤ f i
+unfolding leastN
+least-at f zero i h = let e : i ≡ 0 = omega arith in subst (λ (x : ℕ). f 0 ≤ f x) (sym e) (omega arith)
+least-at f (suc n) i h =
+    and-last (suc n) (λ i. min (leastN f n) (f (suc n)) ≤ f i) (λ i l. let z = least-at f n i l in omega arith) (omega arith) i h
+
+most-at : (f : ℕ → ℕ) (n i : ℕ) → i < suc n → f i ≤ mostN f n
+unfolding mostN
+most-at f zero i h = let e : i ≡ 0 = omega arith in subst (λ (x : ℕ). f x ≤ f 0) (sym e) (omega arith)
+most-at f (suc n) i h =
+    and-last (suc n) (λ i. f i ≤ max (mostN f n) (f (suc n))) (λ i l. let z = most-at f n i l in omega arith) (omega arith) i h
+
+most-limit : (f : ℕ → ℕ) (n m : ℕ) → ((i : ℕ) → f i ≤ m) → mostN f n ≤ m
+unfolding mostN
+most-limit f zero m h = h zero
+most-limit f (suc n) m h = let z = most-limit f n m h in omega (arith, h (suc n))
+
+module _ {o : List ℕ} {l r f h : ℕ} (k : Lent o) (b : BoundsOf o l r f h) where
+  pub x-least : (i : ℕ) → i < sides o → l ≤ vx o i
+  x-least i s = omega (arith, b .left, least-at (vx o) (sides o - 1) i (omega arith))
+
+  pub y-least : (i : ℕ) → i < sides o → f ≤ vy o i
+  y-least i s = omega (arith, b .foot, least-at (vy o) (sides o - 1) i (omega arith))
+
+  pub x-most : (i : ℕ) → i < sides o → vx o i ≤ r
+  x-most i s = omega (arith, b .right, most-at (vx o) (sides o - 1) i (omega arith))
+
+  pub y-most : (i : ℕ) → i < sides o → vy o i ≤ h
+  y-most i s = omega (arith, b .head, most-at (vy o) (sides o - 1) i (omega arith))
+
+  pub right-limit : r ≤ 16000
+  right-limit = omega (arith, b .right, most-limit (vx o) (sides o - 1) 16000 (λ i. k .small (2 * i)))
+
+  pub head-limit : h ≤ 16000
+  head-limit = omega (arith, b .head, most-limit (vy o) (sides o - 1) 16000 (λ i. k .small (2 * i + 1)))
+
+  module _ (t i : ℕ) (s : i < sides o) where
+    pub vertex-0 : t ≡ 0 → VertexOf o t i (vx o i - l) (vy o i - f)
+    vertex-0 e =
+        record {
+          across = ap (λ (m : ℕ). vx o i - m) (b .left) ∙ sym (turn-0-x o i s) ∙ ap (λ (t : ℕ). vx (turned o t) i) (sym e);
+          up = ap (λ (m : ℕ). vy o i - m) (b .foot) ∙ sym (turn-0-y o i s) ∙ ap (λ (t : ℕ). vy (turned o t) i) (sym e);
+          x-most = omega (arith, k .small (2 * i));
+          y-most = omega (arith, k .small (2 * i + 1));
+        }
+
+    pub vertex-1 : t ≡ 1 → VertexOf o t i (h - vy o i) (vx o i - l)
+    vertex-1 e =
+        record {
+          across = ap (λ (m : ℕ). m - vy o i) (b .head) ∙ sym (turn-1-x o i s) ∙ ap (λ (t : ℕ). vx (turned o t) i) (sym e);
+          up = ap (λ (m : ℕ). vx o i - m) (b .left) ∙ sym (turn-1-y o i s) ∙ ap (λ (t : ℕ). vy (turned o t) i) (sym e);
+          x-most = omega (arith, head-limit);
+          y-most = omega (arith, k .small (2 * i));
+        }
+
+    pub vertex-2 : t ≡ 2 → VertexOf o t i (r - vx o i) (h - vy o i)
+    vertex-2 e =
+        record {
+          across = ap (λ (m : ℕ). m - vx o i) (b .right) ∙ sym (turn-2-x o i s) ∙ ap (λ (t : ℕ). vx (turned o t) i) (sym e);
+          up = ap (λ (m : ℕ). m - vy o i) (b .head) ∙ sym (turn-2-y o i s) ∙ ap (λ (t : ℕ). vy (turned o t) i) (sym e);
+          x-most = omega (arith, right-limit);
+          y-most = omega (arith, head-limit);
+        }
+
+    pub vertex-3 : t ≡ 3 → VertexOf o t i (vy o i - f) (r - vx o i)
+    vertex-3 e =
+        record {
+          across = ap (λ (m : ℕ). vy o i - m) (b .foot) ∙ sym (turn-3-x o i s) ∙ ap (λ (t : ℕ). vx (turned o t) i) (sym e);
+          up = ap (λ (m : ℕ). m - vx o i) (b .right) ∙ sym (turn-3-y o i s) ∙ ap (λ (t : ℕ). vy (turned o t) i) (sym e);
+          x-most = omega (arith, k .small (2 * i + 1));
+          y-most = omega (arith, right-limit);
+        }
+
+-- edge i by its ends
+module _ {o : List ℕ} {t i j xa ya xb yb : ℕ} (hj : j ≡ after (sides o) i) (u : VertexOf o t i xa ya) (v : VertexOf o t j xb yb) where
+  same : edgeAt (turned o t) i ≡ edgeBetween xa ya xb yb
+  unfolding edgeAt
+  same =
+      ap (λ (n : ℕ). edgeBetween (vx (turned o t) i) (vy (turned o t) i) (vx (turned o t) (after n i)) (vy (turned o t) (after n i))) (sides-turned o t)
+      ∙ ap (λ (j : ℕ). edgeBetween (vx (turned o t) i) (vy (turned o t) i) (vx (turned o t) j) (vy (turned o t) j)) (sym hj)
+      ∙ ap₂ (λ (x y : ℕ). edgeBetween x y (vx (turned o t) j) (vy (turned o t) j)) (sym (u .across)) (sym (u .up))
+      ∙ ap₂ (λ (x y : ℕ). edgeBetween xa ya x y) (sym (v .across)) (sym (v .up))
+
+  -- in either order of its ends the edge is within the limits
+  abbrev Fits : Edge → Type 0
+  Fits e = Small (e .xl) (e .yl) (e .xr) (e .yr)
+
+  ends-fit : (b : Bool) → leb xa xb ≡ b → Fits (cond b (edgeOf xa ya xb yb) (edgeOf xb yb xa ya))
+  ends-fit true h =
+      record { order = leb-true xa xb h; right-most = v .x-most; yl-most = u .y-most; yr-most = v .y-most }
+  ends-fit false h =
+      record { order = omega (arith, leb-false xa xb h); right-most = u .x-most; yl-most = v .y-most; yr-most = u .y-most }
+
+  pub side-between : {xl yl xr yr : ℕ} → edgeOf xl yl xr yr ≡ edgeBetween xa ya xb yb → SideOf o t i xl yl xr yr
+  side-between e =
+      let s = subst Fits (sym e) (ends-fit (leb xa xb) refl) in
+      record { is = e ∙ sym same; order = s .order; right-most = s .right-most; yl-most = s .yl-most; yr-most = s .yr-most }
+
+pub all-bounds : (o : List ℕ) {i l r f h : ℕ} → i ≡ sides o → l ≡ leastN (vx o) (i - 1) → r ≡ mostN (vx o) (i - 1) → f ≡ leastN (vy o) (i - 1) → h ≡ mostN (vy o) (i - 1) → BoundsOf o l r f h
+all-bounds o e a b c d =
+    record {
+      left = a ∙ ap (λ (n : ℕ). leastN (vx o) (n - 1)) e;
+      right = b ∙ ap (λ (n : ℕ). mostN (vx o) (n - 1)) e;
+      foot = c ∙ ap (λ (n : ℕ). leastN (vy o) (n - 1)) e;
+      head = d ∙ ap (λ (n : ℕ). mostN (vy o) (n - 1)) e;
+    }

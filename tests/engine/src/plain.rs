@@ -1,0 +1,180 @@
+//! A plain, quick Rust version of cover, to measure the engine against: the same
+//! job, with vectors and the usual means. It is no reference for answers.
+
+use reference::Refusal;
+
+struct Edge {
+    xl: i64,
+    yl: i64,
+    xr: i64,
+    yr: i64,
+}
+
+impl Edge {
+    fn dx(&self) -> i64 {
+        self.xr - self.xl
+    }
+
+    /// The height at x, times dx.
+    fn height(&self, x: i64) -> i64 {
+        self.yl * (self.xr - x) + self.yr * (x - self.xl)
+    }
+}
+
+fn turned(outline: &[u16], turn: u16) -> Vec<(i64, i64)> {
+    let mut vertices: Vec<(i64, i64)> = outline
+        .chunks_exact(2)
+        .map(|v| {
+            let (x, y) = (i64::from(v[0]), i64::from(v[1]));
+            match turn {
+                0 => (x, y),
+                1 => (-y, x),
+                2 => (-x, -y),
+                _ => (y, -x),
+            }
+        })
+        .collect();
+    let left = vertices.iter().map(|v| v.0).min().unwrap_or(0);
+    let foot = vertices.iter().map(|v| v.1).min().unwrap_or(0);
+    for v in &mut vertices {
+        *v = (v.0 - left, v.1 - foot);
+    }
+    vertices
+}
+
+fn edges(vertices: &[(i64, i64)]) -> Vec<Edge> {
+    let n = vertices.len();
+    (0..n)
+        .map(|i| (vertices[i], vertices[(i + 1) % n]))
+        .filter(|(a, b)| a.0 != b.0)
+        .map(|(a, b)| {
+            let (l, r) = if a.0 < b.0 { (a, b) } else { (b, a) };
+            Edge {
+                xl: l.0,
+                yl: l.1,
+                xr: r.0,
+                yr: r.1,
+            }
+        })
+        .collect()
+}
+
+/// Whether two edges change order in some unit column.
+fn change_order(e: &Edge, f: &Edge) -> bool {
+    let (a, b) = (e.xl.max(f.xl), e.xr.min(f.xr));
+    if a >= b {
+        return false;
+    }
+    let difference = |x| e.height(x) * f.dx() - f.height(x) * e.dx();
+    let (p, q) = (difference(a), difference(b));
+    if p.signum() * q.signum() >= 0 {
+        return false;
+    }
+    (b - a) * p.abs() % (p.abs() + q.abs()) != 0
+}
+
+/// Whether some pair of edges is ordered one way at a and the other way at b.
+fn crossed(spanning: &[&Edge], a: i64, b: i64) -> bool {
+    spanning.windows(2).any(|pair| {
+        let (e, f) = (pair[0], pair[1]);
+        e.height(b) * f.dx() > f.height(b) * e.dx() || e.height(a) * f.dx() > f.height(a) * e.dx()
+    })
+}
+
+/// Rows of the slab from a to b, as stretches added to `rows`.
+fn slab(spanning: &[&Edge], a: i64, b: i64, rows: &mut Vec<(i64, i64)>) {
+    for pair in spanning.chunks_exact(2) {
+        let (e, g) = (pair[0], pair[1]);
+        let meet = |x| e.height(x) * g.dx() == g.height(x) * e.dx();
+        if meet(a) && meet(b) {
+            continue;
+        }
+        let low = e.height(a).min(e.height(b)) / e.dx();
+        let top = g.height(a).max(g.height(b));
+        let high = (top + g.dx() - 1) / g.dx();
+        if low < high {
+            rows.push((low, high));
+        }
+    }
+}
+
+/// The stretches of one column, joined and rising.
+fn column(all: &[Edge], cuts: &[i64], from: i64, to: i64, rows: &mut Vec<(i64, i64)>) {
+    rows.clear();
+    let mut a = from;
+    while a < to {
+        let next = cuts.partition_point(|&x| x <= a);
+        let mut b = cuts.get(next).map_or(to, |&x| x.min(to));
+        let mut spanning: Vec<&Edge> = all.iter().filter(|e| e.xl <= a && a < e.xr).collect();
+        spanning.sort_by(|e, f| {
+            let at = |x| (e.height(x) * f.dx()).cmp(&(f.height(x) * e.dx()));
+            at(a).then_with(|| at(b))
+        });
+        if crossed(&spanning, a, b) {
+            b = a + 1;
+            spanning.sort_by(|e, f| {
+                let at = |x| (e.height(x) * f.dx()).cmp(&(f.height(x) * e.dx()));
+                at(a).then_with(|| at(b))
+            });
+        }
+        slab(&spanning, a, b, rows);
+        a = b;
+    }
+    rows.sort_unstable();
+    let mut kept = 0;
+    for i in 0..rows.len() {
+        if kept > 0 && rows[i].0 <= rows[kept - 1].1 {
+            rows[kept - 1].1 = rows[kept - 1].1.max(rows[i].1);
+        } else {
+            rows[kept] = rows[i];
+            kept += 1;
+        }
+    }
+    rows.truncate(kept);
+}
+
+pub fn cover(outline: &[u16], turn: u16, r: u16, output: &mut [u16]) -> Result<u32, Refusal> {
+    let no = |number, ordinal| Err(Refusal { number, ordinal });
+    if !(1..=400).contains(&r) {
+        return no(3, 0);
+    }
+    if outline.len() % 2 != 0 || !(6..=128).contains(&outline.len()) {
+        return no(7, 1);
+    }
+    if outline.iter().any(|&x| x > 16_000) {
+        return no(8, 1);
+    }
+    if turn > 3 {
+        return no(9, 1);
+    }
+    let vertices = turned(outline, turn);
+    let all = edges(&vertices);
+    for i in 0..all.len() {
+        if all[..i].iter().any(|f| change_order(&all[i], f)) {
+            return no(10, 1);
+        }
+    }
+    let mut cuts: Vec<i64> = vertices.iter().map(|v| v.0).collect();
+    cuts.sort_unstable();
+    cuts.dedup();
+    let (w, r) = (*cuts.last().unwrap_or(&0), i64::from(r));
+    let mut runs: Vec<[u16; 3]> = Vec::new();
+    let mut rows = Vec::new();
+    for i in 0..(w + r - 1) / r {
+        column(&all, &cuts, i * r, ((i + 1) * r).min(w), &mut rows);
+        runs.extend(
+            rows.iter()
+                .map(|&(low, high)| [i as u16, low as u16, high as u16]),
+        );
+    }
+    if runs.is_empty() {
+        return no(11, 1);
+    }
+    if 3 * runs.len() > output.len() {
+        return no(12, 1);
+    }
+    for (place, run) in output.chunks_exact_mut(3).zip(&runs) {
+        place.copy_from_slice(run);
+    }
+    Ok(runs.len() as u32)
+}

@@ -1,0 +1,139 @@
+//! The engine's cover against the reference program's: answer and every word of
+//! the output, with each buffer directly before a page that cannot be read.
+
+use engine::guard::Guarded;
+use engine::{data, plain};
+use reference::generate::{any_outline, any_resolution, any_turn, outline, OutlineKind, Random};
+
+/// One call on both, with an output of so many words.
+fn same(words: &[u16], turn: u16, r: u16, room: usize) {
+    let before: Vec<u16> = (0..room).map(|i| i as u16 ^ 0x5A5A).collect();
+    let mut expected = before.clone();
+    let answer = reference::cover(words, turn, r, &mut expected);
+    let lent = Guarded::new(words);
+    let mut output = Guarded::new(&before);
+    assert_eq!(
+        engine::cover(&lent, turn, r, &mut output),
+        answer,
+        "{words:?} turn {turn} R {r} room {room}"
+    );
+    assert!(
+        *output == *expected,
+        "output of {words:?} turn {turn} R {r} room {room}"
+    );
+    assert!(*lent == *words, "the outline was written");
+    let mut quick = before;
+    assert_eq!(
+        plain::cover(words, turn, r, &mut quick),
+        answer,
+        "plain: {words:?} turn {turn} R {r}"
+    );
+    assert_eq!(quick, expected, "plain");
+}
+
+/// Rooms that are right, short by one, longer, and any.
+fn rooms(random: &mut Random, words: &[u16], turn: u16, r: u16) {
+    let mut large = vec![0; 6_000];
+    let needed = match reference::cover(words, turn, r, &mut large) {
+        Ok(runs) => 3 * runs as usize,
+        Err(_) => 9,
+    };
+    let room = match random.index(5) {
+        0 => needed - 1,
+        1 => needed + random.index(5),
+        2 => random.index(needed + 1),
+        _ => needed,
+    };
+    same(words, turn, r, room);
+}
+
+#[test]
+fn small_outlines_of_every_kind() {
+    let mut random = Random::new(11);
+    for i in 0..100_000 {
+        let kind = OutlineKind::ALL[i % OutlineKind::ALL.len()];
+        if kind == OutlineKind::AtLimit {
+            continue;
+        }
+        let size = if i % 50 == 0 {
+            random.word(13, 60)
+        } else {
+            random.word(2, 12)
+        };
+        let words = outline(&mut random, kind, size);
+        let (turn, r) = (any_turn(&mut random), any_resolution(&mut random));
+        rooms(&mut random, &words, turn, r);
+    }
+}
+
+#[test]
+fn every_resolution() {
+    let mut random = Random::new(12);
+    for r in 1..=400 {
+        for _ in 0..8 {
+            let kind = random.pick(&OutlineKind::MOSTLY_SOUND);
+            let size = random.word(20, 500);
+            let words = outline(&mut random, kind, size);
+            let turn = random.word(0, 3);
+            rooms(&mut random, &words, turn, r);
+        }
+    }
+}
+
+#[test]
+fn outlines_of_any_size() {
+    let mut random = Random::new(13);
+    for _ in 0..400 {
+        let words = any_outline(&mut random);
+        let (turn, r) = (random.word(0, 3), random.word(1, 400));
+        rooms(&mut random, &words, turn, r);
+    }
+}
+
+#[test]
+fn outlines_at_the_limit() {
+    let mut random = Random::new(14);
+    for kind in [
+        OutlineKind::AtLimit,
+        OutlineKind::FullStar,
+        OutlineKind::Spur,
+        OutlineKind::Zigzag,
+    ] {
+        for _ in 0..2 {
+            let words = outline(&mut random, kind, 16_000);
+            let (turn, r) = (random.word(0, 3), random.word(40, 400));
+            rooms(&mut random, &words, turn, r);
+        }
+    }
+}
+
+#[test]
+fn public_outlines() {
+    let mut random = Random::new(15);
+    for words in data::all() {
+        for turn in 0..4 {
+            let r = random.word(1, 100);
+            rooms(&mut random, &words, turn, r);
+        }
+    }
+}
+
+/// Two combs, 16,000 by 16,000, as READINGS counts them: more runs than 16 bits hold.
+#[test]
+fn the_largest_number_of_runs() {
+    let vertices = reference::generate::outlines::zigzag_of(32, 500, 1, 16_000);
+    let words: Vec<u16> = vertices
+        .iter()
+        .flat_map(|&(x, y)| [x as u16, y as u16])
+        .collect();
+    let mut small = Guarded::new(&[7; 3]);
+    let refused = engine::cover(&words, 0, 1, &mut small);
+    assert_eq!(refused.map_err(|no| no.number), Err(12));
+    assert_eq!(*small, [7; 3]);
+    let mut expected = vec![7; 1_536_001];
+    let runs = reference::cover(&words, 0, 1, &mut expected).expect("covered");
+    assert!(runs > 65_535);
+    let mut output = Guarded::new(&vec![7; 1_536_001]);
+    assert_eq!(engine::cover(&words, 0, 1, &mut output), Ok(runs));
+    assert!(*output == *expected);
+}
