@@ -50,7 +50,7 @@ fn rooms(random: &mut Random, words: &[u16], turn: u16, r: u16) {
 #[test]
 fn small_outlines_of_every_kind() {
     let mut random = Random::new(11);
-    for i in 0..100_000 {
+    for i in 0..110_000 {
         let kind = OutlineKind::ALL[i % OutlineKind::ALL.len()];
         if kind == OutlineKind::AtLimit {
             continue;
