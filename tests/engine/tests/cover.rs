@@ -118,7 +118,7 @@ fn public_outlines() {
     }
 }
 
-/// Two combs, 16,000 by 16,000, as READINGS counts them: more runs than 16 bits hold.
+/// A band of 64 vertices that goes to and fro over 16,000 by 15,500 units: 495,010 runs, more than 16 bits hold.
 #[test]
 fn the_largest_number_of_runs() {
     let vertices = reference::generate::outlines::zigzag_of(32, 500, 1, 16_000);
@@ -132,7 +132,7 @@ fn the_largest_number_of_runs() {
     assert_eq!(*small, [7; 3]);
     let mut expected = vec![7; 1_536_001];
     let runs = reference::cover(&words, 0, 1, &mut expected).expect("covered");
-    assert!(runs > 65_535);
+    assert_eq!(runs, 495_010);
     let mut output = Guarded::new(&vec![7; 1_536_001]);
     assert_eq!(engine::cover(&words, 0, 1, &mut output), Ok(runs));
     assert!(*output == *expected);
