@@ -161,6 +161,19 @@ fn damaged_strips_are_ill_formed() {
     }
 }
 
+/// Changed words make most strips ill formed, and leave some well formed.
+#[test]
+fn changed_strips_are_of_both_fates() {
+    let mut fates = [0; 2];
+    for seed in 0..500 {
+        let mut random = Random::new(seed);
+        let mut strip = sound_strip(&mut random);
+        change_words(&mut random, &mut strip);
+        fates[usize::from(well_formed(&strip))] += 1;
+    }
+    assert!(fates[0] > 300 && fates[1] > 20, "{fates:?}");
+}
+
 /// A strip with one damage mended is well formed: nothing else was wrong.
 #[test]
 fn damages_of_the_leading_words_are_the_only_ones() {

@@ -2,46 +2,87 @@
 -- Assumes nothing.
 use mathlib.Core.Path.{_≡_, refl, sym, _∙_}
 use mathlib.Core.Bool.{Bool, true, false, not, false≢true}
+use mathlib.Core.Logic.{_≢_}
 use mathlib.Core.List.{List}
 use Prim.Native.Nat.{ℕ}
-use borrow.Author.Tests.{not-true}
+use native.Mathlib.Omega.{arith}
+use borrow.Author.Tests.{not-true, not-false}
+use Rattle.defs.specs.Computing.Test.{ask}
 use Rattle.defs.specs.Computing.Cells.{ordersb}
-use Rattle.defs.specs.Computing.Calls.{q7b, q8b, outlineNo}
-use Rattle.geom.proofs.Checks.{none-no-is}
-use Rattle.asked.specs.Answers.{SomeCell, FirstNo}
+use Rattle.defs.specs.Computing.Calls.{q7b, q8b, q11b, outlineNo}
+use Rattle.asked.specs.Answers.{SomeCell, orderNo, FirstNo}
 
 -- the answer of a test that is asked by `if !r`
 pub said-no : {r b : Bool} → r ≡ b → not r ≡ true → b ≡ false
 said-no {r} e y = sym e ∙ not-true r y
 
 pub said-yes : {r b : Bool} → r ≡ b → not r ≡ false → b ≡ true
-said-yes {r = true} e y = sym e
-said-yes {r = false} e y = absurd (false≢true (sym y))
+said-yes {r} e y = sym e ∙ not-false r y
+
+abbrev to10 : Bool → Bool → Bool → Bool → ℕ
+to10 a b c d = ask a 7 λ _. ask b 8 λ _. ask c 9 λ _. ask d 10 λ _. 0
 
 module _ (o : List ℕ) (ninth : Bool) (mask : ℕ) where
-  pub no-7 : q7b o ≡ false → FirstNo o ninth mask 7
-  unfolding outlineNo
-  no-7 a = record { every = λ R Rpos. rw a refl }
+  pub no-7 : q7b o ≡ false → 7 ≡ orderNo o ninth mask
+  unfolding orderNo
+  no-7 a = rw a refl
 
   module _ (a : q7b o ≡ true) where
-    pub no-8 : q8b o ≡ false → FirstNo o ninth mask 8
-    unfolding outlineNo
-    no-8 b = record { every = λ R Rpos. rw (a, b) refl }
+    pub no-8 : q8b o ≡ false → 8 ≡ orderNo o ninth mask
+    unfolding orderNo
+    no-8 b = rw (a, b) refl
 
     module _ (b : q8b o ≡ true) where
-      pub no-9 : ninth ≡ false → FirstNo o ninth mask 9
-      unfolding outlineNo
-      no-9 n = record { every = λ R Rpos. rw (a, b, n) refl }
+      pub no-9 : ninth ≡ false → 9 ≡ orderNo o ninth mask
+      unfolding orderNo
+      no-9 n = rw (a, b, n) refl
 
       module _ (n : ninth ≡ true) where
-        pub no-10 : ordersb o mask ≡ false → FirstNo o ninth mask 10
-        unfolding outlineNo
-        no-10 d = record { every = λ R Rpos. rw (a, b, n, d) refl }
+        pub no-10 : ordersb o mask ≡ false → 10 ≡ orderNo o ninth mask
+        unfolding orderNo
+        no-10 d = rw (a, b, n, d) refl
 
-        module _ (d : ordersb o mask ≡ true) where
-          pub no-11 : {r : Bool} → SomeCell o mask r → not r ≡ true → FirstNo o ninth mask 11
-          unfolding outlineNo
-          no-11 e y = record { every = λ R Rpos. rw (a, b, n, d, said-no (e .every R Rpos) y) refl }
+        pub none-to-10 : ordersb o mask ≡ true → 0 ≡ orderNo o ninth mask
+        unfolding orderNo
+        none-to-10 d = rw (a, b, n, d) refl
 
-          pub no-no : {r : Bool} → SomeCell o mask r → not r ≡ false → FirstNo o ninth mask 0
-          no-no e y = record { every = λ R Rpos. sym (none-no-is o ninth mask R .1 (a, b, n, d, said-yes (e .every R Rpos) y)) }
+  -- what none of 7 to 10 says
+  pub record Ordered : Type 0 where
+    pub seven : q7b o ≡ true
+    pub eight : q8b o ≡ true
+    pub nine : ninth ≡ true
+    pub ten : ordersb o mask ≡ true
+
+  pub ordered : {r : ℕ} → r ≡ orderNo o ninth mask → r ≡ 0 → Ordered
+  unfolding orderNo
+  ordered e z = go (q7b o) refl (q8b o) refl ninth refl (ordersb o mask) refl (sym e ∙ z)
+    where
+      go : (a : Bool) → q7b o ≡ a → (b : Bool) → q8b o ≡ b → (c : Bool) → ninth ≡ c → (d : Bool) → ordersb o mask ≡ d →
+          to10 a b c d ≡ 0 → Ordered
+      go false p b q c r d s f = absurd (omega arith)
+      go true p false q c r d s f = absurd (omega arith)
+      go true p true q false r d s f = absurd (omega arith)
+      go true p true q true r false s f = absurd (omega arith)
+      go true p true q true r true s f = record { seven = p; eight = q; nine = r; ten = s }
+
+  -- a "no" of 7 to 10 is the first of 7 to 11
+  pub some-no : {r : ℕ} → r ≡ orderNo o ninth mask → r ≢ 0 → FirstNo o ninth mask r
+  unfolding orderNo outlineNo
+  some-no e n = record { every = λ R Rpos. e ∙ go R (q7b o) (q8b o) ninth (ordersb o mask) (λ z. n (e ∙ z)) }
+    where
+      go : (R : ℕ) (a b c d : Bool) → to10 a b c d ≢ 0 →
+          to10 a b c d ≡ (ask a 7 λ _. ask b 8 λ _. ask c 9 λ _. ask d 10 λ _. ask (q11b o mask R) 11 λ _. 0)
+      go R false b c d l = refl
+      go R true false c d l = refl
+      go R true true false d l = refl
+      go R true true true false l = refl
+      go R true true true true l = absurd (l refl)
+
+  module _ (y : Ordered) where
+    pub no-11 : {r : Bool} → SomeCell o mask r → not r ≡ true → FirstNo o ninth mask 11
+    unfolding outlineNo
+    no-11 e n = record { every = λ R Rpos. rw (y .seven, y .eight, y .nine, y .ten, said-no (e .every R Rpos) n) refl }
+
+    pub no-no : {r : Bool} → SomeCell o mask r → not r ≡ false → FirstNo o ninth mask 0
+    unfolding outlineNo
+    no-no e n = record { every = λ R Rpos. rw (y .seven, y .eight, y .nine, y .ten, said-yes (e .every R Rpos) n) refl }

@@ -23,13 +23,14 @@ use Rattle.asked.specs.Answers.{HasCell}
 
 -- new buffers and no slab kept
 pub new-work : {h0 h1 w g0 g1 l h : List ℕ} (v : List ℕ) → length h0 ≡ 64 → length h1 ≡ 64 → length w ≡ 64 → length g0 ≡ 64 →
-    length g1 ≡ 64 → length l ≡ 8001 → length h ≡ 8001 → Working v 0 0 0 h0 h1 w g0 g1 l h
+    length g1 ≡ 64 → length l ≡ 8001 → length h ≡ 8001 → Working v 0 0 0 0 h0 h1 w g0 g1 l h
 new-work v a b c d e f g =
     record {
       buffers = record { left = a; right = b; wide = c; lows = omega arith; highs = omega arith };
       part-left = d;
       part-right = e;
       kept = λ z. absurd (omega arith);
+      next = record { none = λ i l z. omega arith };
     }
 
 pub some-side : {o : List ℕ} → Lent o → 0 < sides o
@@ -40,12 +41,12 @@ unit-cell : {v : List ℕ} (R k j : ℕ) → 1 ≤ R → Covered v 1 k j → Cov
 unit-cell R k j Rpos c =
     widen (record { k = k; from = omega (arith, div-add-mod k R); to = omega (arith, div-add-mod k R, mod-lt k Rpos); there = c })
 
-module _ (o : List ℕ) (t : ℕ) {w n a b m : ℕ} {h0 h1 s l h : List ℕ} (lent : Lent o) (keeps : KeepsOrder (turned o t)) (e : w ≡ extentX o t)
-    (c : ColumnOf (turned o t) 0 w h0 h1 s l h n a b m) where
+module _ (o : List ℕ) (t : ℕ) {w n a b m c : ℕ} {h0 h1 s l h : List ℕ} (lent : Lent o) (keeps : KeepsOrder (turned o t)) (e : w ≡ extentX o t)
+    (k : ColumnOf (turned o t) 0 w h0 h1 s l h n a b m c) where
   -- the first row of the first run
   run-cell : (R : ℕ) → 1 ≤ R → 0 < n → 0 < countRuns (pieceRuns o t R)
   run-cell R Rpos p =
-      let u = c .rows (getD l 0 0) .0 (record { which = 0; among = p; low = omega arith; high = c .runs .full 0 p }) in
+      let u = k .rows (getD l 0 0) .0 (record { which = 0; among = p; low = omega arith; high = k .runs .full 0 p }) in
       cell-of-turn o t R keeps (some-side lent) Rpos .1 (u .k / R, getD l 0 0, unit-cell R (u .k) (getD l 0 0) Rpos (u .there))
 
   cell-run : (R : ℕ) → 1 ≤ R → 0 < countRuns (pieceRuns o t R) → 0 < n
@@ -53,7 +54,7 @@ module _ (o : List ℕ) (t : ℕ) {w n a b m : ℕ} {h0 h1 s l h : List ℕ} (le
       let z = cell-of-turn o t R keeps (some-side lent) Rpos .0 p in
       let u = narrow (z .2) in
       let x = within o t 1 keeps (some-side lent) (omega arith) (u .k) (z .1) (u .there) in
-      let y = c .rows (z .1) .1 (record { k = u .k; from = omega arith; to = omega (arith, x .column); there = u .there }) in
+      let y = k .rows (z .1) .1 (record { k = u .k; from = omega arith; to = omega (arith, x .column); there = u .there }) in
       omega (arith, y .among)
 
   pub one-column : HasCell o t (not (eqb n 0))

@@ -1,11 +1,12 @@
 // Questions 7 to 11 of one outline.
 
+ghost use mathlib.Core.Path.{_≡_};
 ghost use Prim.Native.Nat.{_≤_};
 ghost use Rattle.defs.specs.Meaning.Outline.{KeepsOrder};
 ghost use Rattle.defs.specs.Meaning.Turn.{turned};
 ghost use Rattle.defs.specs.Meaning.Question.{Question10};
 ghost use Rattle.outline.specs.Vertex.{Lent, BoundsOf};
-ghost use Rattle.asked.specs.Answers.{HasCell, AllowedCell, SomeCell, FirstNo};
+ghost use Rattle.asked.specs.Answers.{HasCell, AllowedCell, SomeCell, orderNo, FirstNo};
 use column::Section;
 use outline::Bounds;
 
@@ -27,6 +28,7 @@ pub fn has_cell(o: &[u16], b: Bounds, t: u16) -> bool
         start: 0,
         end: 0,
         count: 0,
+        cut: 0,
     };
     let f = column::column(
         o,
@@ -73,9 +75,9 @@ pub fn some_cell(o: &[u16], b: Bounds, mask: u16) -> bool
     false
 }
 
-// The first of questions 7 to 11 that gets "no", else 0. `ninth` is the answer to 9.
-pub fn outline_no(o: &[u16], ninth: bool, mask: u16) -> u16
-    ensures { λ r. ⌜ FirstNo (now (o .entry)) ninth mask r ⌝ }
+// The first of questions 7 to 10 that gets "no", else 0. `ninth` is the answer to 9.
+pub fn order_no(o: &[u16], ninth: bool, mask: u16) -> u16
+    ensures { λ r. ⌜ r ≡ orderNo (now (o .entry)) ninth mask ⌝ }
 {
     if !checks::seven(o) {
         return 7;
@@ -90,6 +92,18 @@ pub fn outline_no(o: &[u16], ninth: bool, mask: u16) -> u16
     if !checks::all_keep_order(o, b, mask) {
         return 10;
     }
+    0
+}
+
+// The first of questions 7 to 11 that gets "no", else 0.
+pub fn outline_no(o: &[u16], ninth: bool, mask: u16) -> u16
+    ensures { λ r. ⌜ FirstNo (now (o .entry)) ninth mask r ⌝ }
+{
+    let n = order_no(o, ninth, mask);
+    if n != 0 {
+        return n;
+    }
+    let b = outline::bounds_of(o);
     if !some_cell(o, b, mask) {
         return 11;
     }

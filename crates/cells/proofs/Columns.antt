@@ -11,7 +11,7 @@ use lib.ListN.{length}
 use lib.Seq.{sets}
 use Rattle.laws.proofs.Stores.{sets-append}
 use Rattle.laws.proofs.Lists.{length-listFrom}
-use Rattle.defs.specs.Meaning.Outline.{KeepsOrder}
+use Rattle.defs.specs.Meaning.Outline.{sides, KeepsOrder}
 use Rattle.defs.specs.Meaning.Turn.{turned, extentX}
 use Rattle.defs.specs.Meaning.Placing.{columnsFor}
 use Rattle.defs.specs.Computing.Test.{listFrom}
@@ -19,6 +19,7 @@ use Rattle.defs.specs.Computing.Cells.{Rows, pieceRuns, countRuns}
 use Rattle.defs.specs.Computing.Calls.{rowsWords, runsWords}
 use Rattle.geom.proofs.Extent.{rounded-up, rounded-end}
 use Rattle.outline.specs.Vertex.{Lent, BoundsOf}
+use Rattle.entries.specs.Edges.{NextAt}
 use Rattle.column.specs.Rows.{Kept, Working, ColumnOf}
 use Rattle.cells.specs.Put.{PutRuns}
 use Rattle.cells.specs.Columns.{pairAt, pairs, PutColumn, columnRuns}
@@ -111,22 +112,23 @@ all-put {o} {t} {R} {w} {out₀} e p r l =
     }
 
 -- the buffers of a column's work, with the slab that is kept
-pub at-work : {v : List ℕ} {a b m : ℕ} {h0 h1 d g0 g1 l h : List ℕ} → length h0 ≡ 64 → length h1 ≡ 64 → length d ≡ 64 →
+pub at-work : {v : List ℕ} {a b m c : ℕ} {h0 h1 d g0 g1 l h : List ℕ} → length h0 ≡ 64 → length h1 ≡ 64 → length d ≡ 64 →
     length g0 ≡ 64 → length g1 ≡ 64 → length l ≡ 8001 → length h ≡ 8001 → (a < b → Kept v a b m h0 h1 d) →
-    Working v a b m h0 h1 d g0 g1 l h
-at-work e0 e1 ed f0 f1 el eh kept =
+    NextAt v b (sides v) c → Working v a b m c h0 h1 d g0 g1 l h
+at-work e0 e1 ed f0 f1 el eh kept next =
     record {
       buffers = record { left = e0; right = e1; wide = ed; lows = omega arith; highs = omega arith };
       part-left = f0;
       part-right = f1;
       kept = kept;
+      next = next;
     }
 
 -- one column more, as `column` leaves it
 pub column-put : {o : List ℕ} {x₀ x₁ y₀ y₁ : ℕ} → Lent o → BoundsOf o x₀ x₁ y₀ y₁ → {t R w : ℕ} → t ≤ 3 →
     KeepsOrder (turned o t) → w ≡ extentX o t → 1 ≤ R → {out₀ out : List ℕ} {i from k : ℕ} →
     Putting (columnRuns o t R) w R out₀ out i from k → from < w → {to : ℕ} → to ≡ min (from + R) w →
-    {h0 h1 d l h : List ℕ} {n a b m : ℕ} → ColumnOf (turned o t) from to h0 h1 d l h n a b m →
+    {h0 h1 d l h : List ℕ} {n a b m c : ℕ} → ColumnOf (turned o t) from to h0 h1 d l h n a b m c →
     {out' : List ℕ} {k' : ℕ} → PutColumn i (pairs l h n) out out' k k' →
     Putting (columnRuns o t R) w R out₀ out' (i + 1) to k'
 column-put lent bounds {R = R} turn keeps wide r {i = i} p s ends {l = l} {h = h} {n = n} c q =

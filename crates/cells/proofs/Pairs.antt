@@ -99,7 +99,7 @@ module _
     λ p. units-cut y .1 (column-rows lent bounds t turn keeps R i y .1 (p .1)),
   )
 
-  pub column-runs : {h0 h1 d l h : List ℕ} {r a b m : ℕ} → ColumnOf (turned o t) from to h0 h1 d l h r a b m →
+  pub column-runs : {h0 h1 d l h : List ℕ} {r a b m c : ℕ} → ColumnOf (turned o t) from to h0 h1 d l h r a b m c →
       pairs l h r ≡ columnRuns o t R i
   unfolding columnRuns
   column-runs {l = l} {h = h} {r = r} c =

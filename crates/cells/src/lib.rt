@@ -16,7 +16,7 @@ use outline::Bounds;
 
 // No runs yet, and no slab looked at.
 fn nothing() -> Filled
-    ensures { λ f. ⌜ f .slab .end ≡ 0 ⌝ }
+    ensures { λ f. ⌜ (f .slab .end ≡ 0) × (f .slab .cut ≡ 0) ⌝ }
 {
     Filled {
         runs: 0,
@@ -24,6 +24,7 @@ fn nothing() -> Filled
             start: 0,
             end: 0,
             count: 0,
+            cut: 0,
         },
     }
 }

@@ -109,18 +109,22 @@ pub fn changes(e: Side, f: Side) -> bool
     false
 }
 
-// Whether an edge changes order with one of the edges before i.
+// Whether an edge changes order with one of the edges before i. u is vertex j, read in the step before.
 fn row(o: &[u16], b: Bounds, t: u16, e: Side, i: usize) -> bool
     requires { ⌜ Lent (now o) ⌝ ∗ ⌜ BoundsOf (now o) (b .left) (b .right) (b .foot) (b .head) ⌝ ∗ ⌜ (t ≤ 3) × (i < sides (now o)) ⌝
         ∗ ⌜ Small (e .xl) (e .yl) (e .xr) (e .yr) ⌝ }
     ensures { λ r. ⌜ r ≡ rowb (turned (now (o .entry)) t) (edgeOf (e .xl) (e .yl) (e .xr) (e .yr)) i ⌝ }
 {
+    let g = outline::frame_of(b, t);
+    let mut u = outline::vertex_in(o, b, t, g, 0);
     let mut j = 0;
     while j < i {
-        let f = outline::side_at(o, b, t, j);
+        let v = outline::vertex_in(o, b, t, g, j + 1);
+        let f = outline::side_of(u, v);
         if changes(e, f) {
             return true;
         }
+        u = v;
         j += 1;
     }
     false

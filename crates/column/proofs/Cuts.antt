@@ -1,6 +1,6 @@
 -- Where a slab may end: no vertex inside it, and its entries in order.
 -- Assumes nothing.
-use mathlib.Core.Path.{_≡_, ap, ap₂, sym, subst, _∙_}
+use mathlib.Core.Path.{_≡_, ap₂, sym, subst, _∙_}
 use mathlib.Core.Bool.{Bool, true, false, cond, _&&_}
 use mathlib.Core.Logic.{⊎-elim}
 use mathlib.Core.List.{List}
@@ -8,68 +8,89 @@ use Prim.Native.Nat.{ℕ, _+_, _*_, _-_, _≤_, _<_}
 use native.Mathlib.Omega.{arith}
 use lib.Dec.{ltb, leb}
 use lib.ListN.{length, getD}
-use borrow.Author.Tests.{lt-ltb, le-ltb, le-leb, lt-leb, leb-true}
+use borrow.Author.Tests.{lt-ltb, le-ltb, le-leb, lt-leb}
 use Rattle.defs.specs.Meaning.Outline.{vx, vy, sides, after, edgeAt, edgeBetween, spans, width, height, KeepsOrder}
 use Rattle.defs.specs.Meaning.Turn.{turned}
 use Rattle.geom.proofs.Strip.{lt-or-le}
 use Rattle.geom.proofs.Extent.{after-below, sides-turned}
 use Rattle.outline.specs.Vertex.{VertexOf}
 use Rattle.slabs.specs.Slab.{Neat}
-use Rattle.entries.specs.Edges.{Loaded, Spanned}
-use Rattle.entries.proofs.Entries.{below-one, all-loaded}
-use Rattle.column.specs.Rows.{CutAt, Nearer, RowTidy, TidyTo, HeldAt}
+use Rattle.entries.specs.Edges.{Loaded, Loads, AllFit, Sorted, Rising, NextAt, Nearer, Spanned}
+use Rattle.entries.proofs.Entries.{below-one, next-none, next-more, next-end, loads-end, product}
+use Rattle.entries.proofs.Sorting.{frac-trans}
+use Rattle.column.specs.Rows.{CutAt, HeldAt}
 use Rattle.column.proofs.Units.{reaches-right, neat-one}
 
-pub not-above : (x y : ℕ) → leb x y ≡ true → y < x → ⊥
-not-above x y e h = omega (arith, leb-true x y e)
+pub cut-none : (v : List ℕ) (a c : ℕ) → a < c → CutAt v a 0 c
+cut-none v a c h = record { more = h; next = next-none v a c }
 
-pub cut-none : (v : List ℕ) (a c : ℕ) → a < c → CutAt v a c 0 c
-cut-none v a c h = record { more = h; most = omega arith; none = λ i l. absurd (omega arith) }
+pub cut-more : {o : List ℕ} {t a i r x y z : ℕ} → CutAt (turned o t) a i r → VertexOf o t i x y → Nearer a x r z → CutAt (turned o t) a (i + 1) z
+cut-more k v n = record { more = n .more (k .more); next = next-more (k .next) v n }
 
-pub cut-more : {o : List ℕ} {t a c i r x y z : ℕ} → CutAt (turned o t) a c i r → VertexOf o t i x y → Nearer a x r z → CutAt (turned o t) a c (i + 1) z
-cut-more {o} {t} {a} {c} {i} {r} {x} {y} {z} k v n =
+pub cut-end : {v : List ℕ} {a i n r : ℕ} → CutAt v a i r → i ≡ n → CutAt v a n r
+cut-end k e = record { more = k .more; next = next-end (k .next) e }
+
+-- the slab after one that ends at b
+pub cut-after : (o : List ℕ) (t : ℕ) {a b r : ℕ} → a ≡ b → NextAt (turned o t) b (sides (turned o t)) r → a < r → CutAt (turned o t) a (sides o) r
+cut-after o t {a} {b} {r} e k h =
+    record { more = h; next = subst (λ (x : ℕ). NextAt (turned o t) x (sides o) r) (sym e) (next-end k (sides-turned o t)) }
+
+-- heights that rise from one entry to the next do so over any distance
+pub rising-one : (h w : List ℕ) → Rising h w 1
+rising-one h w = record { order = λ x y l k. absurd (omega arith) }
+
+pub rising-more : {h0 h w : List ℕ} {m x : ℕ} (y : ℕ) → AllFit h0 h w m → x < m → x ≡ y + 1 → Rising h w x → getD h y 0 * getD w x 0 ≤ getD h x 0 * getD w y 0 →
+    Rising h w (x + 1)
+rising-more {h0} {h} {w} {m} {x} y f l e r n =
     record {
-      more = n .more (k .more);
-      most = omega (arith, n .most, k .most);
-      none = λ j l h.
-          ⊎-elim (λ q. let g = k .none j q h in omega (arith, n .most))
-          (λ q.
-          let e : vx (turned o t) i ≡ x = sym (v .across) in
-          let f : vx (turned o t) j ≡ x = ap (vx (turned o t)) q ∙ e in
-          let g = n .at (omega arith) in omega arith)
-          (below-one l);
+      order = λ a b p q.
+          ⊎-elim (r .order a b p)
+          (λ eb. subst (λ (b : ℕ). getD h a 0 * getD w b 0 ≤ getD h b 0 * getD w a 0) (sym eb) (last a (omega arith))) (below-one q);
     }
+  where
+    last : (a : ℕ) → a < x → getD h a 0 * getD w x 0 ≤ getD h x 0 * getD w a 0
+    last a p =
+        ⊎-elim
+        (λ q. frac-trans (getD h a 0) (getD w a 0) (getD h y 0) (getD w y 0) (getD h x 0) (getD w x 0) (f .each y (omega arith) .some) (r .order a y q (omega arith)) n)
+        (λ q. let g : y ≡ a = omega arith in subst (λ (a : ℕ). getD h a 0 * getD w x 0 ≤ getD h x 0 * getD w a 0) g n) (lt-or-le a y)
 
-pub cut-end : {v : List ℕ} {a c i n r : ℕ} → CutAt v a c i r → i ≡ n → CutAt v a c n r
-cut-end {v} {a} {c} {i} {n} {r} k e = subst (λ (m : ℕ). CutAt v a c m r) e k
+pub side-fits : {h0 h1 w : List ℕ} {m : ℕ} → AllFit h0 h1 w m → (x y : ℕ) → x < m → y < m → getD h1 x 0 * getD w y 0 ≤ 4096000000000
+side-fits {h0} {h1} {w} f x y l k = product (getD h1 x 0) (getD w y 0) 256000000 16000 (f .each x l .right) (f .each y k .wide)
 
-pub row-none : (h0 h1 w : List ℕ) (x : ℕ) → RowTidy h0 h1 w 0 x
-row-none h0 h1 w x = record { order = λ y l. absurd (omega arith) }
+pub rising-less : {h w : List ℕ} {m x : ℕ} → Rising h w x → m ≤ x → Rising h w m
+rising-less r l = record { order = λ a b p q. r .order a b p (omega arith) }
 
-pub row-add : {h0 h1 w : List ℕ} {x y : ℕ} → RowTidy h0 h1 w y x → (getD h0 x 0 * getD w y 0 < getD h0 y 0 * getD w x 0 → getD h1 y 0 * getD w x 0 < getD h1 x 0 * getD w y 0 → ⊥) → RowTidy h0 h1 w (y + 1) x
-row-add {h0} {h1} {w} {x} {y} r f =
-    record {
-      order = λ z l.
-          ⊎-elim (λ q. r .order z q)
-          (λ q. subst (λ (n : ℕ). getD h0 x 0 * getD w n 0 < getD h0 n 0 * getD w x 0 → getD h1 n 0 * getD w x 0 < getD h1 x 0 * getD w n 0 → ⊥) (sym q) f)
-          (below-one l);
-    }
+sorted-left : {h0 h1 w : List ℕ} {m : ℕ} → Sorted h0 h1 w m → Rising h0 w m
+sorted-left s = record { order = λ x y l h. s .order x y l h .left }
 
-pub row-whole : {h0 h1 w : List ℕ} {x y m : ℕ} → RowTidy h0 h1 w y x → y ≡ m → RowTidy h0 h1 w m x
-row-whole {h0} {h1} {w} {x} r e = subst (λ (n : ℕ). RowTidy h0 h1 w n x) e r
+-- entries that rise at both sides keep their order
+rising-tidy : {h0 h1 w : List ℕ} {m : ℕ} → Rising h0 w m → Rising h1 w m → (x y : ℕ) → x < m → y < m →
+    getD h0 x 0 * getD w y 0 < getD h0 y 0 * getD w x 0 → getD h1 y 0 * getD w x 0 < getD h1 x 0 * getD w y 0 → ⊥
+rising-tidy {h0} {h1} {w} r s x y lx ly p q =
+    ⊎-elim (λ l. omega (arith, s .order x y l ly))
+    (λ l.
+    ⊎-elim (λ k. omega (arith, r .order y x k lx))
+    (λ k.
+    let e : y ≡ x = omega arith in
+    let z = subst (λ (n : ℕ). getD h0 x 0 * getD w n 0 < getD h0 n 0 * getD w x 0) e p in omega arith)
+    (lt-or-le y x))
+    (lt-or-le x y)
 
-pub tidy-none : (h0 h1 w : List ℕ) (m : ℕ) → TidyTo h0 h1 w m 0
-tidy-none h0 h1 w m = record { each = λ z l. absurd (omega arith) }
-
-pub tidy-add : {h0 h1 w : List ℕ} {m x : ℕ} → TidyTo h0 h1 w m x → RowTidy h0 h1 w m x → TidyTo h0 h1 w m (x + 1)
-tidy-add {h0} {h1} {w} {m} {x} t r =
-    record { each = λ z l. ⊎-elim (λ q. t .each z q) (λ q. subst (λ (n : ℕ). RowTidy h0 h1 w m n) (sym q) r) (below-one l) }
-
-pub tidy-whole : {h0 h1 w : List ℕ} {m x : ℕ} → TidyTo h0 h1 w m x → x ≡ m → TidyTo h0 h1 w m m
-tidy-whole {h0} {h1} {w} {m} t e = subst (λ (n : ℕ). TidyTo h0 h1 w m n) e t
+-- the entries of a neat slab that are sorted rise at its right side too
+neat-right : {v : List ℕ} {a b : ℕ} {h0 h1 w : List ℕ} {m : ℕ} → Neat v a b → Loaded v a b h0 h1 w (sides v) m → Sorted h0 h1 w m → Rising h1 w m
+neat-right {v} {a} {b} {h0} {h1} {w} {m} n l s =
+    record { order = λ x y p q. ⊎-elim (λ k. absurd (back x y p q k)) (λ k. k) (lt-or-le (getD h1 y 0 * getD w x 0) (getD h1 x 0 * getD w y 0)) }
+  where
+    back : (x y : ℕ) → x < y → y < m → getD h1 y 0 * getD w x 0 < getD h1 x 0 * getD w y 0 → ⊥
+    back x y p q k =
+        let e = l .at x (omega arith) in
+        let f = l .at y q in
+        ⊎-elim
+        (λ h. n .order (l .idx x) (l .idx y) (e .here) (f .here) (e .edge) (f .edge) (rw (e .left, e .wide, f .left, f .wide) at h) (rw (e .right, e .wide, f .right, f .wide) at k))
+        (λ h. let z = s .order x y p q .right h in omega arith) (lt-or-le (getD h0 x 0 * getD w y 0) (getD h0 y 0 * getD w x 0))
 
 -- a cut leaves every edge across the slab or outside it
-module _ {v : List ℕ} {a c b : ℕ} (k : CutAt v a c (sides v) b) where
+module _ {v : List ℕ} {a b : ℕ} (k : CutAt v a (sides v) b) where
   spans-same : (x y x' y' m : ℕ) → a ≤ m → m < b → (a < x → b ≤ x) → (a < x' → b ≤ x') → spans (edgeBetween x y x' y') m ≡ spans (edgeBetween x y x' y') a
   spans-same x y x' y' m l r p q = go (leb x x')
     where
@@ -88,11 +109,11 @@ module _ {v : List ℕ} {a c b : ℕ} (k : CutAt v a c (sides v) b) where
   pub cut-steady : (i m : ℕ) → i < sides v → a ≤ m → m < b → spans (edgeAt v i) m ≡ spans (edgeAt v i) a
   unfolding edgeAt
   cut-steady i m s l r =
-      spans-same (vx v i) (vy v i) (vx v (after (sides v) i)) (vy v (after (sides v) i)) m l r (k .none i s) (k .none (after (sides v) i) (after-below (sides v) i s))
+      spans-same (vx v i) (vy v i) (vx v (after (sides v) i)) (vy v (after (sides v) i)) m l r (k .next .none i s) (k .next .none (after (sides v) i) (after-below (sides v) i s))
 
-  -- a cut whose entries are tidy is a neat slab
-  pub cut-neat : {h0 h1 w : List ℕ} {m : ℕ} → Loaded v a b h0 h1 w (sides v) m → TidyTo h0 h1 w m m → Neat v a b
-  cut-neat {h0} {h1} {w} {m} l t =
+  -- a cut whose entries rise at both sides is a neat slab
+  pub cut-neat : {h0 h1 w : List ℕ} {m : ℕ} → Loaded v a b h0 h1 w (sides v) m → Rising h0 w m → Rising h1 w m → Neat v a b
+  cut-neat {h0} {h1} {w} {m} l r s =
       record {
         wide = k .more;
         steady = cut-steady;
@@ -108,7 +129,7 @@ module _ {v : List ℕ} {a c b : ℕ} (k : CutAt v a c (sides v) b) where
       at x y lx ly i j ei ej p q =
           let e = l .at x lx in
           let f = l .at y ly in
-          t .each x lx .order y ly (rw (e .left, e .wide, f .left, f .wide, ei, ej) p) (rw (e .right, e .wide, f .right, f .wide, ei, ej) q)
+          rising-tidy r s x y lx ly (rw (e .left, e .wide, f .left, f .wide, ei, ej) p) (rw (e .right, e .wide, f .right, f .wide, ei, ej) q)
 
   pub cut-spanned : {h0 h1 w : List ℕ} → length h0 ≡ 64 → length h1 ≡ 64 → length w ≡ 64 → Spanned v a b h0 h1 w
   cut-spanned e f g =
@@ -120,23 +141,32 @@ module _ {v : List ℕ} {a c b : ℕ} (k : CutAt v a c (sides v) b) where
         longw = g;
       }
 
-pub cut-turned : (o : List ℕ) (t : ℕ) {a c r : ℕ} → CutAt (turned o t) a c (sides o) r → CutAt (turned o t) a c (sides (turned o t)) r
+pub cut-turned : (o : List ℕ) (t : ℕ) {a r : ℕ} → CutAt (turned o t) a (sides o) r → CutAt (turned o t) a (sides (turned o t)) r
 cut-turned o t k = cut-end k (sym (sides-turned o t))
 
-pub cut-shorter : {v : List ℕ} {a c n r s : ℕ} → CutAt v a c n r → a < s → s ≤ r → CutAt v a c n s
+pub cut-shorter : {v : List ℕ} {a n r s : ℕ} → CutAt v a n r → a < s → s ≤ r → CutAt v a n s
 cut-shorter k p q =
-    record { more = p; most = omega (arith, k .most); none = λ i l h. let z = k .none i l h in omega arith }
+    record { more = p; next = record { none = λ i l h. let z = k .next .none i l h in omega arith } }
 
--- a slab from a that ends at a cut, with its entries: neat if they are tidy, and where it is a unit column
-module _ (o : List ℕ) (t : ℕ) {a c r : ℕ} {h0 h1 w : List ℕ} {m : ℕ} (k : CutAt (turned o t) a c (sides o) r) (l : Loaded (turned o t) a r h0 h1 w (sides o) m) where
-  held-neat : Neat (turned o t) a r → HeldAt (turned o t) a a r m h0 h1 w
-  held-neat n =
-      record { from = omega arith; to = k .more; kept = record { neat = n; loaded = all-loaded l (sym (sides-turned o t)) } }
+-- a slab from a that ends at a cut, with its entries: neat if they rise at its right side, and where it is a unit column
+module _ (o : List ℕ) (t : ℕ) {a r : ℕ} {h0 h1 w : List ℕ} {m c : ℕ} (k : CutAt (turned o t) a (sides o) r) (l : Loads (turned o t) a r h0 h1 w (sides o) m c) where
+  whole : Loads (turned o t) a r h0 h1 w (sides (turned o t)) m c
+  whole = loads-end l (sym (sides-turned o t))
 
-  pub held-tidy : TidyTo h0 h1 w m m → HeldAt (turned o t) a a r m h0 h1 w
-  held-tidy d = held-neat (cut-neat (cut-turned o t k) (all-loaded l (sym (sides-turned o t))) d)
+  held-neat : Neat (turned o t) a r → Rising h1 w m → HeldAt (turned o t) a a r m c h0 h1 w
+  held-neat n s =
+      record {
+        from = omega arith;
+        to = k .more;
+        kept = record { neat = n; loaded = whole .loaded; left = sorted-left (l .sorted); right = s };
+        next = whole .next;
+      }
 
-  pub held-unit : KeepsOrder (turned o t) → r ≤ a + 1 → HeldAt (turned o t) a a r m h0 h1 w
+  pub held-tidy : Rising h1 w m → HeldAt (turned o t) a a r m c h0 h1 w
+  held-tidy s = held-neat (cut-neat (cut-turned o t k) (whole .loaded) (sorted-left (l .sorted)) s) s
+
+  pub held-unit : KeepsOrder (turned o t) → r ≤ a + 1 → HeldAt (turned o t) a a r m c h0 h1 w
   held-unit keeps h =
       let e : a + 1 ≡ r = omega (arith, k .more) in
-      held-neat (subst (λ (n : ℕ). Neat (turned o t) a n) e (neat-one (turned o t) a keeps))
+      let n = subst (λ (n : ℕ). Neat (turned o t) a n) e (neat-one (turned o t) a keeps) in
+      held-neat n (neat-right n (whole .loaded) (l .sorted))

@@ -1,3 +1,5 @@
+pub mod Caps
+pub mod Pairing
 pub mod Adding
 pub mod Parts
 pub mod Units

@@ -17,9 +17,9 @@ use Rattle.geom.proofs.Parity.{count-same}
 use Rattle.geom.proofs.Line.{height-is, keeps}
 use Rattle.slabs.specs.Slab.{Neat}
 use Rattle.slabs.proofs.Lines.{slab-line}
-use Rattle.entries.specs.Edges.{Fit, Loaded, AllFit}
+use Rattle.entries.specs.Edges.{Fit, Loaded, AllFit, Rising}
 use Rattle.entries.proofs.Entries.{below-one}
-use Rattle.column.specs.Rows.{Gaps, SlabRow, Adds, AddsPart, onLine, Heights, Parted}
+use Rattle.column.specs.Rows.{Paired, SlabRow, Adds, AddsPart, onLine, Heights, Parted}
 use Rattle.column.proofs.Adding.{slab-adds}
 use Rattle.column.proofs.Units.{reaches-left, reaches-right}
 
@@ -207,16 +207,51 @@ module _ {h0 h1 w g0 g1 : List ℕ} {m l d0 d1 : ℕ} (p : Parted h0 h1 l d0 d1 
           ∙ line-height (edgeAt v (q .idx x)) a b l d (reaches-left (edgeAt v (q .idx x)) a (t .edge)) (right-end s (q .idx x) (t .here) (t .edge)) el (omega arith) kd
           ∙ ap (λ (n : ℕ). height (edgeAt v (q .idx x)) n 1) e
 
+  -- heights that rise at both sides rise in between
+  part-rising : {g : List ℕ} {d : ℕ} → ((x : ℕ) → x < m → getD g x 0 ≡ onLine (getD h0 x 0) (getD h1 x 0) l d) → d ≤ l → 0 < l →
+      {v : List ℕ} {a b : ℕ} → Neat v a b → Loaded v a b h0 h1 w (sides v) m → a + l ≡ b → Rising h0 w m → Rising h1 w m → Rising g w m
+  part-rising {g} {d} is dl lp {v} {a} {b} s q el r0 r1 =
+      record {
+        order = λ x y n k.
+            go (l - d) (getD g x 0) (getD g y 0) (getD h0 x 0) (getD h1 x 0) (getD h0 y 0) (getD h1 y 0) (getD w x 0) (getD w y 0) (omega arith) (line x (omega arith) (l - d) (omega arith)) (line y k (l - d) (omega arith)) (r0 .order x y n k) (r1 .order x y n k);
+      }
+    where
+      line : (x : ℕ) → x < m → (c : ℕ) → c + d ≡ l → (c + d) * getD g x 0 ≡ c * getD h0 x 0 + d * getD h1 x 0
+      line x h c e =
+          let t = q .at x h in
+          let f = edgeAt v (q .idx x) in
+          let left = reaches-left f a (t .edge) in
+          let right = right-end s (q .idx x) (t .here) (t .edge) in
+          ap (λ (n : ℕ). (c + d) * n)
+          (is x h ∙ ap₂ (λ (y z : ℕ). onLine y z l d) (t .left) (t .right) ∙ line-height f a b l d left right el lp dl)
+          ∙ slab-line f a b (a + d) c d left right (omega arith) (omega arith)
+          ∙ ap₂ (λ (y z : ℕ). c * y + d * z) (sym (t .left)) (sym (t .right))
+
+      go : (c P Q A A' B B' u z : ℕ) → c + d ≡ l → (c + d) * P ≡ c * A + d * A' → (c + d) * Q ≡ c * B + d * B' → A * z ≤ B * u → A' * z ≤ B' * u → P * z ≤ Q * u
+      go c P Q A A' B B' u z e hP hQ n k =
+          let cp : 0 < c + d = omega arith in
+          ⊎-elim
+          (λ i.
+          absurd
+          (omega (arith, mul-lt-mul-of-pos-left i cp, ap (λ (n : ℕ). n * z) hP, ap (λ (n : ℕ). n * u) hQ, mul-le-mul-left c n, mul-le-mul-left d k)))
+          (λ i. i) (lt-or-le (Q * u) (P * z))
+
   pub part-adds : {a b x0 x1 : ℕ} {lo hi lo' hi' : List ℕ} {n r : ℕ} → a + l ≡ b → a + d0 ≡ x0 → a + d1 ≡ x1 → d0 < l →
-      Adds (Gaps g0 g1 w m m) lo hi lo' hi' n r → AddsPart h0 h1 w a b m x0 x1 lo hi lo' hi' n r
-  part-adds el e0 e1 k t = record { rows = λ v q. slab-adds (part-loaded (q .neat) (q .loaded) el e0 e1 k) t }
+      Adds (Paired g0 g1 w m) lo hi lo' hi' n r → AddsPart h0 h1 w a b m x0 x1 lo hi lo' hi' n r
+  part-adds el e0 e1 k t =
+      record {
+        rows = λ v q.
+            slab-adds (part-loaded (q .neat) (q .loaded) el e0 e1 k)
+            (part-rising (p .left) k0 (omega arith) (q .neat) (q .loaded) el (q .left) (q .right))
+            (part-rising (p .right) k1 (omega arith) (q .neat) (q .loaded) el (q .left) (q .right)) t;
+      }
 
 -- the whole slab
 pub whole-adds : {h0 h1 w : List ℕ} {m a b x0 x1 : ℕ} {lo hi lo' hi' : List ℕ} {n r : ℕ} → a ≡ x0 → x1 ≡ b →
-    Adds (Gaps h0 h1 w m m) lo hi lo' hi' n r → AddsPart h0 h1 w a b m x0 x1 lo hi lo' hi' n r
+    Adds (Paired h0 h1 w m) lo hi lo' hi' n r → AddsPart h0 h1 w a b m x0 x1 lo hi lo' hi' n r
 whole-adds {a = a} {b = b} {x0 = x0} {x1 = x1} {lo = lo} {hi = hi} {lo' = lo'} {hi' = hi'} {n = n} {r = r} e f t =
     record {
       rows = λ v q.
           subst (λ (x : ℕ). Adds (SlabRow v x x1) lo hi lo' hi' n r) e
-          (subst (λ (y : ℕ). Adds (SlabRow v a y) lo hi lo' hi' n r) (sym f) (slab-adds (q .loaded) t));
+          (subst (λ (y : ℕ). Adds (SlabRow v a y) lo hi lo' hi' n r) (sym f) (slab-adds (q .loaded) (q .left) (q .right) t));
     }

@@ -8,22 +8,23 @@ use Prim.Native.Nat.{ℕ, _+_, _*_, _-_, _/_, _%_, _≤_, _<_, min, max}
 use lib.Dec.{ltb}
 use lib.ListN.{length, getD}
 use Rattle.join.specs.Runs.{Apart, Holds}
-use Rattle.defs.specs.Meaning.Outline.{sides, vx}
+use Rattle.defs.specs.Meaning.Outline.{sides}
 use Rattle.slabs.specs.Slab.{InSlab, InUnits, Neat}
-use Rattle.entries.specs.Edges.{notUpper, upper, Loaded}
+use Rattle.entries.specs.Edges.{upper, Loaded, NextAt, Rising}
 
--- row y lies between entry x and the entries higher than it, and an odd number of entries is not higher than x
-pub record Gap (h0 h1 w : List ℕ) (m x y : ℕ) : Type 0 where
-  pub here : x < m
-  pub odd : notUpper h0 h1 w x m % 2 ≡ 1
+-- row y lies between entry x and the next one, which is higher
+pub record Between (h0 h1 w : List ℕ) (x y : ℕ) : Type 0 where
+  pub apart : upper h0 h1 w x (x + 1) ≡ true
   pub low : min (getD h0 x 0) (getD h1 x 0) / getD w x 0 ≤ y
   pub row : y < 16000
-  pub high : (g : ℕ) → g < m → upper h0 h1 w x g ≡ true → y * getD w g 0 < max (getD h0 g 0) (getD h1 g 0)
+  pub high : y * getD w (x + 1) 0 < max (getD h0 (x + 1) 0) (getD h1 (x + 1) 0)
 
-pub record Gaps (h0 h1 w : List ℕ) (m x y : ℕ) : Type 0 where
+-- row y lies between the two of a pair of entries, of the first m: 0 and 1, or 2 and 3, ..
+pub record Paired (h0 h1 w : List ℕ) (m y : ℕ) : Type 0 where
   pub at : ℕ
-  pub below : at < x
-  pub gap : Gap h0 h1 w m at y
+  pub even : at % 2 ≡ 0
+  pub below : at + 1 < m
+  pub between : Between h0 h1 w at y
 
 pub record SlabRow (v : List ℕ) (a b y : ℕ) : Type 0 where
   pub opened : InSlab v a b y
@@ -51,41 +52,32 @@ pub record Buffers (h0 h1 w l h : List ℕ) : Type 0 where
   pub lows : 8001 ≤ length l
   pub highs : 8001 ≤ length h
 
--- the next vertex to the right of a, at most c
-pub record CutAt (v : List ℕ) (a c n r : ℕ) : Type 0 where
+-- where a slab from a may end: not beyond the next vertex
+pub record CutAt (v : List ℕ) (a n r : ℕ) : Type 0 where
   pub more : a < r
-  pub most : r ≤ c
-  pub none : (i : ℕ) → i < n → a < vx v i → r ≤ vx v i
+  pub next : NextAt v a n r
 
-pub record Nearer (a x r z : ℕ) : Type 0 where
-  pub more : a < r → a < z
-  pub most : z ≤ r
-  pub at : a < x → z ≤ x
-
--- entry x keeps its order with the first n entries
-pub record RowTidy (h0 h1 w : List ℕ) (n x : ℕ) : Type 0 where
-  pub order : (y : ℕ) → y < n → getD h0 x 0 * getD w y 0 < getD h0 y 0 * getD w x 0 → getD h1 y 0 * getD w x 0 < getD h1 x 0 * getD w y 0 → ⊥
-
-pub record TidyTo (h0 h1 w : List ℕ) (m x : ℕ) : Type 0 where
-  pub each : (z : ℕ) → z < x → RowTidy h0 h1 w m z
-
--- the entries of a neat slab are loaded
+-- the entries of a neat slab are loaded, in the order of their heights at either side
 pub record Kept (v : List ℕ) (a b m : ℕ) (h0 h1 w : List ℕ) : Type 0 where
   pub neat : Neat v a b
   pub loaded : Loaded v a b h0 h1 w (sides v) m
+  pub left : Rising h0 w m
+  pub right : Rising h1 w m
 
--- the room for the entries of a slab, and those of the slab kept from before, if it is not empty
-pub record Stock (v : List ℕ) (a b m : ℕ) (h0 h1 w : List ℕ) : Type 0 where
+-- the room for the entries of a slab, those of the slab kept from before, if it is not empty, and the next vertex after it
+pub record Stock (v : List ℕ) (a b m c : ℕ) (h0 h1 w : List ℕ) : Type 0 where
   pub left : length h0 ≡ 64
   pub right : length h1 ≡ 64
   pub wide : length w ≡ 64
   pub kept : a < b → Kept v a b m h0 h1 w
+  pub next : NextAt v b (sides v) c
 
 -- the slab that is kept reaches over x
-pub record HeldAt (v : List ℕ) (x a b m : ℕ) (h0 h1 w : List ℕ) : Type 0 where
+pub record HeldAt (v : List ℕ) (x a b m c : ℕ) (h0 h1 w : List ℕ) : Type 0 where
   pub from : a ≤ x
   pub to : x < b
   pub kept : Kept v a b m h0 h1 w
+  pub next : NextAt v b (sides v) c
 
 -- The height at distance d on the line from height p to height q, l apart. Exact where l divides the difference of p and q.
 unfoldable pub onLine : ℕ → ℕ → ℕ → ℕ → ℕ
@@ -108,16 +100,18 @@ pub record Parted (h0 h1 : List ℕ) (l d0 d1 : ℕ) (g0 g1 : List ℕ) (m : ℕ
 pub record AddsPart (h0 h1 w : List ℕ) (a b m x0 x1 : ℕ) (l h l' h' : List ℕ) (n r : ℕ) : Type 0 where
   pub rows : (v : List ℕ) → Kept v a b m h0 h1 w → Adds (SlabRow v x0 x1) l h l' h' n r
 
--- a column's work: buffers, and the slab kept from the column before, if it is not empty
-pub record Working (v : List ℕ) (a b m : ℕ) (h0 h1 w g0 g1 l h : List ℕ) : Type 0 where
+-- a column's work: buffers, and the slab kept from the column before, if it is not empty, with the next vertex after it
+pub record Working (v : List ℕ) (a b m c : ℕ) (h0 h1 w g0 g1 l h : List ℕ) : Type 0 where
   pub buffers : Buffers h0 h1 w l h
   pub part-left : length g0 ≡ 64
   pub part-right : length g1 ≡ 64
   pub kept : a < b → Kept v a b m h0 h1 w
+  pub next : NextAt v b (sides v) c
 
 -- r runs, apart, that hold the rows covered in the unit columns from `from` to `to`; and the slab that is kept
-pub record ColumnOf (v : List ℕ) (from to : ℕ) (h0 h1 w l h : List ℕ) (r a b m : ℕ) : Type 0 where
+pub record ColumnOf (v : List ℕ) (from to : ℕ) (h0 h1 w l h : List ℕ) (r a b m c : ℕ) : Type 0 where
   pub runs : Apart l h r
   pub rows : (y : ℕ) → Holds l h r y ↔ InUnits v from to y
   pub few : r < 8001
   pub kept : a < b → Kept v a b m h0 h1 w
+  pub next : NextAt v b (sides v) c

@@ -2,20 +2,22 @@
 
 ghost use mathlib.Core.Path.{_≡_};
 ghost use mathlib.Core.Bool.{true};
-ghost use Prim.Native.Nat.{_*_, _/_, _≤_, _<_, min};
+ghost use Prim.Native.Nat.{_+_, _-_, _/_, _≤_, _<_, min, max};
 ghost use lib.ListN.{length};
 ghost use Rattle.defs.specs.Meaning.Outline.{sides, KeepsOrder};
 ghost use Rattle.defs.specs.Meaning.Turn.{turned};
 ghost use Rattle.outline.specs.Vertex.{Lent, BoundsOf};
-ghost use Rattle.entries.specs.Edges.{AllFit};
-ghost use Rattle.column.specs.Rows.{Gap, Gaps, Adds, AddsPart, Room, CutAt, Nearer, RowTidy, TidyTo, Stock, HeldAt, onLine, Heights, Parted, Working, ColumnOf};
+ghost use Rattle.entries.specs.Edges.{AllFit, NextAt, Rising};
+ghost use Rattle.column.specs.Rows.{Between, Paired, Adds, AddsPart, Room, CutAt, Stock, HeldAt, onLine, Heights, Parted, Working, ColumnOf};
 use outline::Bounds;
 
-// The slab that was looked at last, from x = start to x = end, and how many edges span it. Empty where start is end.
+// The slab that was looked at last, from x = start to x = end, how many edges span it, and where the next slab may end. Empty where
+// start is end.
 pub struct Section {
     pub start: u16,
     pub end: u16,
     pub count: usize,
+    pub cut: u16,
 }
 
 // The runs of a column, and the slab that was looked at last.
@@ -35,7 +37,19 @@ fn foot(p: u64, q: u64, d: u64) -> u64
     q / d
 }
 
-// The rows above entry x, joined to the runs.
+// The greatest of two heights, rounded up, at most 16,000.
+fn top(p: u64, q: u64, d: u64) -> u64
+    requires { ⌜ (p ≤ 256000000) × (q ≤ 256000000) × (0 < d) × (d ≤ 16000) ⌝ }
+    ensures { λ r. ⌜ r ≡ min 16000 ((max p q + (d - 1)) / d) ⌝ }
+{
+    let c = numbers::greater(p, q) + (d - 1);
+    if c < 16000 * d {
+        return c / d;
+    }
+    16000
+}
+
+// The rows between entries x and x + 1, joined to the runs, unless the two are level.
 fn gap(
     h0: &[u64],
     h1: &[u64],
@@ -46,13 +60,13 @@ fn gap(
     highs: &mut [u16],
     n: usize,
 ) -> usize
-    requires { ⌜ AllFit (now h0) (now h1) (now w) m ⌝ ∗ ⌜ x < m ⌝ ∗ ⌜ Room (now lows) (now highs) n ⌝ }
-    ensures { λ r. ⌜ Adds (Gap (now (h0 .entry)) (now (h1 .entry)) (now (w .entry)) m x) (now (lows .entry)) (now (highs .entry)) (now (lows .exit)) (now (highs .exit)) n r ⌝ }
+    requires { ⌜ AllFit (now h0) (now h1) (now w) m ⌝ ∗ ⌜ x + 1 < m ⌝ ∗ ⌜ Room (now lows) (now highs) n ⌝ }
+    ensures { λ r. ⌜ Adds (Between (now (h0 .entry)) (now (h1 .entry)) (now (w .entry)) x) (now (lows .entry)) (now (highs .entry)) (now (lows .exit)) (now (highs .exit)) n r ⌝ }
 {
-    let k = entries::rank(h0, h1, w, m, x);
-    if k % 2 == 1 {
+    let y = x + 1;
+    if (h0[x] + h1[x]) * w[y] < (h0[y] + h1[y]) * w[x] {
         let lo = foot(h0[x], h1[x], w[x]);
-        let hi = entries::ceiling(h0, h1, w, m, x);
+        let hi = top(h0[y], h1[y], w[y]);
         if lo < hi {
             return join::join(lows, highs, n, numbers::narrow(lo), numbers::narrow(hi));
         }
@@ -60,7 +74,7 @@ fn gap(
     n
 }
 
-// The rows of the gaps between the entries, joined to the runs.
+// The rows between the two of each pair of entries, joined to the runs.
 fn gaps(
     h0: &[u64],
     h1: &[u64],
@@ -71,89 +85,51 @@ fn gaps(
     n: usize,
 ) -> usize
     requires { ⌜ AllFit (now h0) (now h1) (now w) m ⌝ ∗ ⌜ Room (now lows) (now highs) n ⌝ }
-    ensures { λ r. ⌜ Adds (Gaps (now (h0 .entry)) (now (h1 .entry)) (now (w .entry)) m m) (now (lows .entry)) (now (highs .entry)) (now (lows .exit)) (now (highs .exit)) n r ⌝ }
+    ensures { λ r. ⌜ Adds (Paired (now (h0 .entry)) (now (h1 .entry)) (now (w .entry)) m) (now (lows .entry)) (now (highs .entry)) (now (lows .exit)) (now (highs .exit)) n r ⌝ }
 {
     let mut k = n;
-    let mut x = 0;
-    while x < m {
-        k = gap(h0, h1, w, m, x, lows, highs, k);
-        x += 1;
+    let mut low = 0;
+    while low + 1 < m {
+        k = gap(h0, h1, w, m, low, lows, highs, k);
+        low += 2;
     }
     k
-}
-
-// The nearer of x and r, of those to the right of a.
-fn nearer(a: u16, x: u16, r: u16) -> u16
-    ensures { λ z. ⌜ Nearer a x r z ⌝ }
-{
-    if a < x {
-        if x < r {
-            return x;
-        }
-    }
-    r
 }
 
 // The end of the slab that begins at a: the next vertex, or `to`.
 fn cut(o: &[u16], b: Bounds, t: u16, a: u16, to: u16) -> u16
     requires { ⌜ Lent (now o) ⌝ ∗ ⌜ BoundsOf (now o) (b .left) (b .right) (b .foot) (b .head) ⌝ ∗ ⌜ (t ≤ 3) × (a < to) ⌝ }
-    ensures { λ r. ⌜ CutAt (turned (now (o .entry)) t) a to (sides (now (o .entry))) r ⌝ }
+    ensures { λ r. ⌜ CutAt (turned (now (o .entry)) t) a (sides (now (o .entry))) r ⌝ }
 {
     let n = o.len() / 2;
+    let f = outline::frame_of(b, t);
     let mut r = to;
     let mut i = 0;
     while i < n {
-        let v = outline::vertex_at(o, b, t, i);
-        r = nearer(a, v.x, r);
+        let v = outline::vertex_in(o, b, t, f, i);
+        r = entries::nearer(a, v.x, r);
         i += 1;
     }
     r
 }
 
-// Whether two entries keep their order.
-fn apart(p: u64, q: u64, d: u64, p2: u64, q2: u64, d2: u64) -> bool
-    requires { ⌜ (p ≤ 256000000) × (q ≤ 256000000) × (d ≤ 16000) ⌝ ∗ ⌜ (p2 ≤ 256000000) × (q2 ≤ 256000000) × (d2 ≤ 16000) ⌝ }
-    ensures { λ r. ⌜ (r ≡ true → p * d2 < p2 * d → q2 * d < q * d2 → ⊥) ⌝ }
-{
-    if p * d2 < p2 * d {
-        return q * d2 <= q2 * d;
-    }
-    true
-}
-
-// Whether entry x keeps its order with each entry.
-fn tidy_row(h0: &[u64], h1: &[u64], w: &[u64], m: usize, x: usize) -> bool
-    requires { ⌜ AllFit (now h0) (now h1) (now w) m ⌝ ∗ ⌜ x < m ⌝ }
-    ensures { λ r. ⌜ (r ≡ true → RowTidy (now (h0 .entry)) (now (h1 .entry)) (now (w .entry)) m x) ⌝ }
-{
-    let mut y = 0;
-    while y < m {
-        if apart(h0[x], h1[x], w[x], h0[y], h1[y], w[y]) {
-            y += 1;
-        } else {
-            return false;
-        }
-    }
-    true
-}
-
-// Whether the entries keep their order from one side of the slab to the other.
+// Whether no entry is above the next at the right side of the slab. They are sorted at the left, so that all keep their order.
 fn tidy(h0: &[u64], h1: &[u64], w: &[u64], m: usize) -> bool
     requires { ⌜ AllFit (now h0) (now h1) (now w) m ⌝ }
-    ensures { λ r. ⌜ (r ≡ true → TidyTo (now (h0 .entry)) (now (h1 .entry)) (now (w .entry)) m m) ⌝ }
+    ensures { λ r. ⌜ (r ≡ true → Rising (now (h1 .entry)) (now (w .entry)) m) ⌝ }
 {
-    let mut x = 0;
+    let mut x = 1;
     while x < m {
-        if tidy_row(h0, h1, w, m, x) {
-            x += 1;
-        } else {
+        let y = x - 1;
+        if h1[x] * w[y] < h1[y] * w[x] {
             return false;
         }
+        x += 1;
     }
     true
 }
 
-// The longest neat slab from a that is found by halving, with its entries: up to the next vertex, or `to`, if its edges keep their order.
+// The longest neat slab from a that is found by halving, with its entries: up to `to`, if its edges keep their order.
 fn next_slab(
     o: &[u16],
     b: Bounds,
@@ -164,31 +140,47 @@ fn next_slab(
     h1: &mut [u64],
     w: &mut [u64],
 ) -> Section
-    requires { ⌜ Lent (now o) ⌝ ∗ ⌜ BoundsOf (now o) (b .left) (b .right) (b .foot) (b .head) ⌝ ∗ ⌜ (t ≤ 3) × (a < to) ⌝
-        ∗ ⌜ KeepsOrder (turned (now o) t) ⌝ ∗ ⌜ (length (now h0) ≡ 64) × (length (now h1) ≡ 64) × (length (now w) ≡ 64) ⌝ }
-    ensures { λ r. ⌜ HeldAt (turned (now (o .entry)) t) a (r .start) (r .end) (r .count) (now (h0 .exit)) (now (h1 .exit)) (now (w .exit)) ⌝ }
+    requires { ⌜ Lent (now o) ⌝ ∗ ⌜ BoundsOf (now o) (b .left) (b .right) (b .foot) (b .head) ⌝ ∗ ⌜ KeepsOrder (turned (now o) t) ⌝
+        ∗ ⌜ CutAt (turned (now o) t) a (sides (now o)) to ⌝ ∗ ⌜ (t ≤ 3) × (length (now h0) ≡ 64) × (length (now h1) ≡ 64) × (length (now w) ≡ 64) ⌝ }
+    ensures { λ r. ⌜ HeldAt (turned (now (o .entry)) t) a (r .start) (r .end) (r .count) (r .cut) (now (h0 .exit)) (now (h1 .exit)) (now (w .exit)) ⌝ }
 {
-    let mut e = cut(o, b, t, a, to);
-    let mut m = entries::load(o, b, t, a, e, h0, h1, w);
+    let mut e = to;
+    let mut l = entries::load(o, b, t, a, e, h0, h1, w);
     while a + 1 < e {
-        if tidy(h0, h1, w, m) {
+        if tidy(h0, h1, w, l.count) {
             return Section {
                 start: a,
                 end: e,
-                count: m,
+                count: l.count,
+                cut: l.cut,
             };
         }
         e = a + (e - a) / 2;
-        m = entries::load(o, b, t, a, e, h0, h1, w);
+        l = entries::load(o, b, t, a, e, h0, h1, w);
     }
     Section {
         start: a,
         end: e,
-        count: m,
+        count: l.count,
+        cut: l.cut,
     }
 }
 
-// The slab that reaches over x = a: s, or the next one. It may end to the right of `to`: no vertex lies beyond 16,000.
+// Where the slab that begins at a may end, found already if it follows s. It may be to the right of `to`: no vertex lies beyond 16,000.
+fn slab_end(o: &[u16], b: Bounds, t: u16, a: u16, to: u16, s: Section) -> u16
+    requires { ⌜ Lent (now o) ⌝ ∗ ⌜ BoundsOf (now o) (b .left) (b .right) (b .foot) (b .head) ⌝ ∗ ⌜ (t ≤ 3) × (a < to) ⌝
+        ∗ ⌜ NextAt (turned (now o) t) (s .end) (sides (turned (now o) t)) (s .cut) ⌝ }
+    ensures { λ r. ⌜ CutAt (turned (now (o .entry)) t) a (sides (now (o .entry))) r ⌝ }
+{
+    if a == s.end {
+        if a < s.cut {
+            return s.cut;
+        }
+    }
+    cut(o, b, t, a, numbers::more(to, numbers::MOST_COORDINATE))
+}
+
+// The slab that reaches over x = a: s, or the next one.
 fn held(
     o: &[u16],
     b: Bounds,
@@ -202,15 +194,16 @@ fn held(
 ) -> Section
     requires { ⌜ Lent (now o) ⌝ ∗ ⌜ BoundsOf (now o) (b .left) (b .right) (b .foot) (b .head) ⌝ ∗ ⌜ (t ≤ 3) × (a < to) ⌝
         ∗ ⌜ KeepsOrder (turned (now o) t) ⌝
-        ∗ ⌜ Stock (turned (now o) t) (s .start) (s .end) (s .count) (now h0) (now h1) (now w) ⌝ }
-    ensures { λ r. ⌜ HeldAt (turned (now (o .entry)) t) a (r .start) (r .end) (r .count) (now (h0 .exit)) (now (h1 .exit)) (now (w .exit)) ⌝ }
+        ∗ ⌜ Stock (turned (now o) t) (s .start) (s .end) (s .count) (s .cut) (now h0) (now h1) (now w) ⌝ }
+    ensures { λ r. ⌜ HeldAt (turned (now (o .entry)) t) a (r .start) (r .end) (r .count) (r .cut) (now (h0 .exit)) (now (h1 .exit)) (now (w .exit)) ⌝ }
 {
     if s.start <= a {
         if a < s.end {
             return s;
         }
     }
-    next_slab(o, b, t, a, numbers::more(to, 16000), h0, h1, w)
+    let e = slab_end(o, b, t, a, to, s);
+    next_slab(o, b, t, a, e, h0, h1, w)
 }
 
 // The height at distance d on the line from height p to height q, l apart.
@@ -288,8 +281,8 @@ pub fn column(
 ) -> Filled
     requires { ⌜ Lent (now o) ⌝ ∗ ⌜ BoundsOf (now o) (b .left) (b .right) (b .foot) (b .head) ⌝ ∗ ⌜ (t ≤ 3) × (from ≤ to) ⌝
         ∗ ⌜ KeepsOrder (turned (now o) t) ⌝
-        ∗ ⌜ Working (turned (now o) t) (s .start) (s .end) (s .count) (now h0) (now h1) (now w) (now g0) (now g1) (now lows) (now highs) ⌝ }
-    ensures { λ r. ⌜ ColumnOf (turned (now (o .entry)) t) from to (now (h0 .exit)) (now (h1 .exit)) (now (w .exit)) (now (lows .exit)) (now (highs .exit)) (r .runs) (r .slab .start) (r .slab .end) (r .slab .count) ⌝ }
+        ∗ ⌜ Working (turned (now o) t) (s .start) (s .end) (s .count) (s .cut) (now h0) (now h1) (now w) (now g0) (now g1) (now lows) (now highs) ⌝ }
+    ensures { λ r. ⌜ ColumnOf (turned (now (o .entry)) t) from to (now (h0 .exit)) (now (h1 .exit)) (now (w .exit)) (now (lows .exit)) (now (highs .exit)) (r .runs) (r .slab .start) (r .slab .end) (r .slab .count) (r .slab .cut) ⌝ }
 {
     let mut k = s;
     let mut n = 0;

@@ -6,7 +6,6 @@ ghost use lib.Seq.{sets};
 ghost use Rattle.defs.specs.Meaning.Outline.{KeepsOrder};
 ghost use Rattle.defs.specs.Meaning.Turn.{turned, extentX};
 ghost use Rattle.defs.specs.Computing.Cells.{pieceRuns};
-ghost use Rattle.defs.specs.Computing.Words.{resolutionb};
 ghost use Rattle.defs.specs.Computing.Calls.{runsWords, CoverStep};
 ghost use Rattle.outline.specs.Vertex.{Lent, BoundsOf};
 ghost use Rattle.cover.specs.Turn.{turnNo};
@@ -19,16 +18,6 @@ use outline::Bounds;
 const KEPT_RUNS: usize = 512;
 
 const KEPT_WORDS: usize = 1536;
-
-// Question 3 of R alone.
-fn resolution_fits(r: u16) -> bool
-    ensures { λ a. ⌜ a ≡ resolutionb r ⌝ }
-{
-    if 1 <= r {
-        return r <= numbers::MOST_RESOLUTION;
-    }
-    false
-}
 
 // The first of questions 7 to 10 that gets "no" in turn t, else 0.
 fn turn_no(o: &[u16], t: u16) -> u16
@@ -98,7 +87,7 @@ fn cover_runs(o: &[u16], t: u16, r: u16, out: &mut [u16]) -> Covering
 pub fn cover(o: &[u16], t: u16, r: u16, out: &mut [u16]) -> Covering
     ensures { λ a. ⌜ CoverStep (now (o .entry)) t r (now (out .entry)) a (now (out .exit)) ⌝ }
 {
-    if !resolution_fits(r) {
+    if !limits::resolution_fits(r) {
         return refused(3, 0);
     }
     let n = turn_no(o, t);

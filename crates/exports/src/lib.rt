@@ -1,35 +1,51 @@
-// Calls as C functions, for tests and benchmarks: an answer of several numbers in one of 64 bits.
+// Parts of the strip's calls as C functions, for tests and benchmarks.
 
 ghost use mathlib.Core.Path.{_≡_};
-ghost use Prim.Native.Nat.{_+_, _*_};
-ghost use Rattle.exports.specs.Packed.{packed, coverNumber, CoverPacked};
-use defs::Covering;
+ghost use Rattle.defs.specs.Computing.Words.{wellFormedb};
+ghost use Rattle.exports.specs.Strips.{rewriteAnswer, rewritten, decodedAnswer};
+use decode::Decoded;
+use defs::Figures;
 
-fn pack(count: u32, number: u16, ordinal: u16) -> u64
-    ensures { λ r. ⌜ r ≡ packed count number ordinal ⌝ }
+// Question 5.
+#[no_mangle]
+pub extern "C" fn vikelodu_well_formed(strip: &[u16]) -> bool
+    ensures { λ r. ⌜ r ≡ wellFormedb (now (strip .entry)) ⌝ }
 {
-    count as u64 + 4294967296 * (number as u64) + 281474976710656 * (ordinal as u64)
+    form::well_formed(strip)
 }
 
-fn pack_covering(a: Covering) -> u64
-    ensures { λ r. ⌜ r ≡ coverNumber a ⌝ }
+// The number of runs of a well-formed strip.
+#[no_mangle]
+pub extern "C" fn vikelodu_decoded(strip: &[u16]) -> u32
+    ensures { λ r. ⌜ r ≡ decodedAnswer (now (strip .entry)) ⌝ }
 {
-    match a {
-        Covering::Runs(n) => pack(n, 0, 0),
-        Covering::Refused(f) => pack(0, f.number, f.ordinal),
+    let mut first = [0u16; 4097];
+    let mut lows = [0u16; 16000];
+    let mut highs = [0u16; 16000];
+    match decode::decode(strip, &mut first, &mut lows, &mut highs) {
+        Decoded::Runs(t) => t as u32,
+        Decoded::Ill => 4294967295,
     }
 }
 
-// The cover call: the number of runs in the low 32 bits, then the refusal's number and ordinal, 16 bits each.
+// A well-formed strip, written anew.
 #[no_mangle]
-pub extern "C" fn vikelodu_cover(
-    outline: &[u16],
-    turn: u16,
-    resolution: u16,
-    output: &mut [u16],
-) -> u64
-    ensures { λ r. ⌜ CoverPacked (now (outline .entry)) turn resolution (now (output .entry)) r (now (output .exit)) ⌝ }
+pub extern "C" fn vikelodu_rewrite(strip: &mut [u16]) -> u64
+    ensures { λ r. ⌜ r ≡ rewriteAnswer (now (strip .entry)) ⌝ ∗ ⌜ now (strip .exit) ≡ rewritten (now (strip .entry)) ⌝ }
 {
-    let a = cover::cover(outline, turn, resolution, output);
-    pack_covering(a)
+    let mut first = [0u16; 4097];
+    let mut lows = [0u16; 16000];
+    let mut highs = [0u16; 16000];
+    match decode::decode(strip, &mut first, &mut lows, &mut highs) {
+        Decoded::Runs(t) => {
+            let g = Figures {
+                width: strip[0],
+                resolution: strip[1],
+                columns: strip[2],
+            };
+            encode::encode(strip, g, &first, &lows, &highs, t);
+            0
+        }
+        Decoded::Ill => 5,
+    }
 }

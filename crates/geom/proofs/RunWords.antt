@@ -87,7 +87,7 @@ module _ (held : List (List Rows)) (rest : List ℕ) where
       (spot-number held a l .1) (run-words (spot held a .0) (spot held a .1) (spot-number held a l .0))
 
 -- the stretches of a later column have greater numbers
-later-column : (held : List (List Rows)) (i k i' k' : ℕ) → i < i' → k < length (getD held i []) →
+pub later-column : (held : List (List Rows)) (i k i' k' : ℕ) → i < i' → k < length (getD held i []) →
     numberOf held i k < numberOf held i' k'
 unfolding numberOf countRuns
 later-column [] i k i' k' g l = absurd (omega arith)

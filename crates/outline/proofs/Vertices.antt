@@ -2,19 +2,20 @@
 -- Assumes nothing.
 use mathlib.Core.Path.{_≡_, refl, ap, ap₂, sym, subst, _∙_}
 use mathlib.Core.Bool.{Bool, true, false, cond}
-use mathlib.Core.Logic.{_⊎_, inl, inr, ⊎-elim}
+use mathlib.Core.Logic.{⊎-elim}
 use mathlib.Core.List.{List}
-use Prim.Native.Nat.{ℕ, zero, suc, _+_, _*_, _-_, _/_, _≤_, _<_, min, max}
+use Prim.Native.Nat.{ℕ, zero, suc, _+_, _*_, _-_, _≤_, _<_, min, max}
 use native.Mathlib.Omega.{arith}
-use lib.ListN.{length, getD}
+use lib.ListN.{getD}
 use lib.Dec.{leb}
-use borrow.Author.Tests.{leb-true, leb-false}
+use borrow.Author.Tests.{leb-true, leb-false, ne-eqb}
 use Rattle.defs.specs.Meaning.Outline.{vx, vy, sides, after, Edge, edgeAt, edgeBetween}
 use Rattle.defs.specs.Meaning.Turn.{turned}
 use Rattle.laws.proofs.Turns.{leastN, mostN, turn-0-x, turn-0-y, turn-1-x, turn-1-y, turn-2-x, turn-2-y, turn-3-x, turn-3-y}
 use Rattle.geom.proofs.Extent.{sides-turned}
+use Rattle.geom.proofs.Strip.{lt-or-le}
 use Rattle.geom.proofs.Column.{and-last}
-use Rattle.outline.specs.Vertex.{Lent, BoundsOf, VertexOf, SideOf, Small, edgeOf}
+use Rattle.outline.specs.Vertex.{Lent, BoundsOf, FrameOf, Distance, VertexOf, SideOf, Small, edgeOf}
 
 pub least-one : (f : ℕ → ℕ) → f 0 ≡ leastN f (1 - 1)
 unfolding leastN
@@ -111,6 +112,68 @@ module _ {o : List ℕ} {l r f h : ℕ} (k : Lent o) (b : BoundsOf o l r f h) wh
           y-most = omega (arith, right-limit);
         }
 
+  -- a vertex by its distances from the frame's corner
+  module _ (t i s : ℕ) (n : i < sides o) {cx cy x y : ℕ} (c : FrameOf l r f h t cx cy s)
+      (dx : Distance cx (getD o (2 * i + s) 0) x) (dy : Distance cy (getD o (2 * i + (1 - s)) 0) y) where
+    word : {a b : ℕ} → a ≡ b → getD o a 0 ≡ getD o b 0
+    word q = ap (λ (k : ℕ). getD o k 0) q
+
+    by : {u v : ℕ} → VertexOf o t i u v → x ≡ u → y ≡ v → VertexOf o t i x y
+    by {u} {v} z ex ey = rw (ex, ey) z
+
+    at-0 : t ≡ 0 → VertexOf o t i x y
+    at-0 q =
+        let z = c .turn-0 q in
+        let u : getD o (2 * i + s) 0 ≡ vx o i = word (omega (arith, z .2)) in
+        let v : getD o (2 * i + (1 - s)) 0 ≡ vy o i = word (omega (arith, z .2)) in
+        let p = x-least i n in
+        let w = y-least i n in
+        let ex = dx .up (omega (arith, z .0)) in
+        let ey = dy .up (omega (arith, z .1)) in
+        by (vertex-0 t i n q) (omega (arith, z .0)) (omega (arith, z .1))
+
+    at-1 : t ≡ 1 → VertexOf o t i x y
+    at-1 q =
+        let z = c .turn-1 q in
+        let u : getD o (2 * i + s) 0 ≡ vy o i = word (omega (arith, z .2)) in
+        let v : getD o (2 * i + (1 - s)) 0 ≡ vx o i = word (omega (arith, z .2)) in
+        let p = y-most i n in
+        let w = x-least i n in
+        let ex = dx .down (omega (arith, z .0)) in
+        let ey = dy .up (omega (arith, z .1)) in
+        by (vertex-1 t i n q) (omega (arith, z .0)) (omega (arith, z .1))
+
+    at-2 : t ≡ 2 → VertexOf o t i x y
+    at-2 q =
+        let z = c .turn-2 q in
+        let u : getD o (2 * i + s) 0 ≡ vx o i = word (omega (arith, z .2)) in
+        let v : getD o (2 * i + (1 - s)) 0 ≡ vy o i = word (omega (arith, z .2)) in
+        let p = x-most i n in
+        let w = y-most i n in
+        let ex = dx .down (omega (arith, z .0)) in
+        let ey = dy .down (omega (arith, z .1)) in
+        by (vertex-2 t i n q) (omega (arith, z .0)) (omega (arith, z .1))
+
+    at-3 : t ≡ 3 → VertexOf o t i x y
+    at-3 q =
+        let z = c .turn-3 q in
+        let u : getD o (2 * i + s) 0 ≡ vy o i = word (omega (arith, z .2)) in
+        let v : getD o (2 * i + (1 - s)) 0 ≡ vx o i = word (omega (arith, z .2)) in
+        let p = y-least i n in
+        let w = x-most i n in
+        let ex = dx .up (omega (arith, z .0)) in
+        let ey = dy .down (omega (arith, z .1)) in
+        by (vertex-3 t i n q) (omega (arith, z .0)) (omega (arith, z .1))
+
+    pub frame-vertex : t ≤ 3 → VertexOf o t i x y
+    frame-vertex m =
+        ⊎-elim (λ p. ⊎-elim (λ q. at-0 (omega arith)) (λ q. at-1 (omega arith)) (lt-or-le t 1))
+        (λ p. ⊎-elim (λ q. at-2 (omega arith)) (λ q. at-3 (omega arith)) (lt-or-le t 3)) (lt-or-le t 2)
+
+-- the vertex after i, if i is not the last, is vertex i + 1
+pub after-is : (n i : ℕ) → i + 1 < n → i + 1 ≡ after n i
+after-is n i h = sym (ap (λ (b : Bool). cond b 0 (i + 1)) (ne-eqb (i + 1) n (omega arith)))
+
 -- edge i by its ends
 module _ {o : List ℕ} {t i j xa ya xb yb : ℕ} (hj : j ≡ after (sides o) i) (u : VertexOf o t i xa ya) (v : VertexOf o t j xb yb) where
   same : edgeAt (turned o t) i ≡ edgeBetween xa ya xb yb
@@ -135,6 +198,10 @@ module _ {o : List ℕ} {t i j xa ya xb yb : ℕ} (hj : j ≡ after (sides o) i)
   side-between e =
       let s = subst Fits (sym e) (ends-fit (leb xa xb) refl) in
       record { is = e ∙ sym same; order = s .order; right-most = s .right-most; yl-most = s .yl-most; yr-most = s .yr-most }
+
+-- the edge from vertex i to vertex i + 1
+pub side-next : {o : List ℕ} {t i xa ya xb yb xl yl xr yr : ℕ} → i + 1 < sides o → VertexOf o t i xa ya → VertexOf o t (i + 1) xb yb → edgeOf xl yl xr yr ≡ edgeBetween xa ya xb yb → SideOf o t i xl yl xr yr
+side-next {o} {t} {i} h u v e = side-between (after-is (sides o) i h) u v e
 
 pub all-bounds : (o : List ℕ) {i l r f h : ℕ} → i ≡ sides o → l ≡ leastN (vx o) (i - 1) → r ≡ mostN (vx o) (i - 1) → f ≡ leastN (vy o) (i - 1) → h ≡ mostN (vy o) (i - 1) → BoundsOf o l r f h
 all-bounds o e a b c d =

@@ -1,15 +1,12 @@
 -- What the outline's functions ask and promise.
 -- Assumes nothing.
 use mathlib.Core.Path.{_≡_}
-use mathlib.Core.Bool.{Bool, not}
 use mathlib.Core.List.{List}
-use Prim.Native.Nat.{ℕ, _+_, _*_, _-_, _≤_, _<_}
+use Prim.Native.Nat.{ℕ, _*_, _-_, _≤_}
 use lib.ListN.{length, getD}
-use Rattle.defs.specs.Meaning.Outline.{vx, vy, sides, Edge, edgeAt, width, height}
+use Rattle.defs.specs.Meaning.Outline.{vx, vy, sides, Edge, edgeAt}
 use Rattle.defs.specs.Meaning.Turn.{turned}
-use Rattle.defs.specs.Computing.Test.{anyTo}
 use Rattle.laws.proofs.Turns.{leastN, mostN}
-use Rattle.slabs.specs.Change.{changesb}
 
 -- An outline that passes 7 and 8.
 pub record Lent (o : List ℕ) : Type 0 where
@@ -24,6 +21,18 @@ pub record BoundsOf (o : List ℕ) (x₀ x₁ y₀ y₁ : ℕ) : Type 0 where
   pub right : x₁ ≡ mostN (vx o) (sides o - 1)
   pub foot : y₀ ≡ leastN (vy o) (sides o - 1)
   pub head : y₁ ≡ mostN (vy o) (sides o - 1)
+
+-- the corner of the bounds l, r, f, h that turn t takes to (0, 0), and which word of a vertex lies across
+pub record FrameOf (l r f h t x y s : ℕ) : Type 0 where
+  pub most : s ≤ 1
+  pub turn-0 : t ≡ 0 → (x ≡ l) × (y ≡ f) × (s ≡ 0)
+  pub turn-1 : t ≡ 1 → (x ≡ h) × (y ≡ l) × (s ≡ 1)
+  pub turn-2 : t ≡ 2 → (x ≡ r) × (y ≡ h) × (s ≡ 0)
+  pub turn-3 : t ≡ 3 → (x ≡ f) × (y ≡ r) × (s ≡ 1)
+
+pub record Distance (a b r : ℕ) : Type 0 where
+  pub up : a ≤ b → r ≡ b - a
+  pub down : b ≤ a → r ≡ a - b
 
 -- vertex i of the turned outline
 pub record VertexOf (o : List ℕ) (t i x y : ℕ) : Type 0 where

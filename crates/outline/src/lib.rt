@@ -1,11 +1,11 @@
 // The outline: bounds, extents, vertices and edges, read through the turn.
 
 ghost use mathlib.Core.Path.{_≡_};
-ghost use Prim.Native.Nat.{_+_, _*_, _-_, _≤_, _<_, min, max};
+ghost use Prim.Native.Nat.{_≤_, _<_};
 ghost use lib.ListN.{length};
 ghost use Rattle.defs.specs.Meaning.Outline.{sides, after, edgeBetween};
 ghost use Rattle.defs.specs.Meaning.Turn.{extentX, extentY};
-ghost use Rattle.outline.specs.Vertex.{Lent, BoundsOf, VertexOf, SideOf, edgeOf};
+ghost use Rattle.outline.specs.Vertex.{Lent, BoundsOf, FrameOf, Distance, VertexOf, SideOf, edgeOf};
 
 // The least and the greatest x and y of an outline.
 pub struct Bounds {
@@ -24,6 +24,13 @@ pub struct Extent {
 pub struct Vertex {
     pub x: u16,
     pub y: u16,
+}
+
+// How a turn reads a vertex: its distances from the corner of the bounds that the turn takes to (0, 0), x by its first or second word.
+pub struct Frame {
+    pub x: u16,
+    pub y: u16,
+    pub first: usize,
 }
 
 // An edge, the left end first.
@@ -76,38 +83,67 @@ pub fn extent_of(o: &[u16], b: Bounds, t: u16) -> Extent
     }
 }
 
+// The frame of turn t.
+pub fn frame_of(b: Bounds, t: u16) -> Frame
+    requires { ⌜ t ≤ 3 ⌝ }
+    ensures { λ r. ⌜ FrameOf (b .left) (b .right) (b .foot) (b .head) t (r .x) (r .y) (r .first) ⌝ }
+{
+    if t < 2 {
+        if t == 0 {
+            Frame {
+                x: b.left,
+                y: b.foot,
+                first: 0,
+            }
+        } else {
+            Frame {
+                x: b.head,
+                y: b.left,
+                first: 1,
+            }
+        }
+    } else {
+        if t == 2 {
+            Frame {
+                x: b.right,
+                y: b.head,
+                first: 0,
+            }
+        } else {
+            Frame {
+                x: b.foot,
+                y: b.right,
+                first: 1,
+            }
+        }
+    }
+}
+
+// How far two numbers are apart.
+fn distance(a: u16, b: u16) -> u16
+    ensures { λ r. ⌜ Distance a b r ⌝ }
+{
+    if a < b { b - a } else { a - b }
+}
+
+// Vertex i of the outline in turn t, whose frame is f: how far it is from the corner. The contract names the bounds and the turn.
+pub fn vertex_in(o: &[u16], b: Bounds, t: u16, f: Frame, i: usize) -> Vertex
+    requires { ⌜ Lent (now o) ⌝ ∗ ⌜ BoundsOf (now o) (b .left) (b .right) (b .foot) (b .head) ⌝ ∗ ⌜ (t ≤ 3) × (i < sides (now o)) ⌝
+        ∗ ⌜ FrameOf (b .left) (b .right) (b .foot) (b .head) t (f .x) (f .y) (f .first) ⌝ }
+    ensures { λ r. ⌜ VertexOf (now (o .entry)) t i (r .x) (r .y) ⌝ }
+{
+    let s = f.first;
+    let x = distance(f.x, o[2 * i + s]);
+    let y = distance(f.y, o[2 * i + (1 - s)]);
+    Vertex { x: x, y: y }
+}
+
 // Vertex i of the outline in turn t.
 pub fn vertex_at(o: &[u16], b: Bounds, t: u16, i: usize) -> Vertex
     requires { ⌜ Lent (now o) ⌝ ∗ ⌜ BoundsOf (now o) (b .left) (b .right) (b .foot) (b .head) ⌝ ∗ ⌜ (t ≤ 3) × (i < sides (now o)) ⌝ }
     ensures { λ r. ⌜ VertexOf (now (o .entry)) t i (r .x) (r .y) ⌝ }
 {
-    let x = o[2 * i];
-    let y = o[2 * i + 1];
-    if t < 2 {
-        if t == 0 {
-            Vertex {
-                x: x - b.left,
-                y: y - b.foot,
-            }
-        } else {
-            Vertex {
-                x: b.head - y,
-                y: x - b.left,
-            }
-        }
-    } else {
-        if t == 2 {
-            Vertex {
-                x: b.right - x,
-                y: b.head - y,
-            }
-        } else {
-            Vertex {
-                x: y - b.foot,
-                y: b.right - x,
-            }
-        }
-    }
+    vertex_in(o, b, t, frame_of(b, t), i)
 }
 
 // The vertex after i.

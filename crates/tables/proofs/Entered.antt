@@ -1,6 +1,6 @@
 -- The table after placing holds what it held and the cells of the moved piece.
 -- Assumes nothing.
-use mathlib.Core.Path.{_≡_, ap, sym, subst, _∙_}
+use mathlib.Core.Path.{_≡_, refl, ap, sym, subst, _∙_}
 use mathlib.Core.Bool.{Bool, true, _&&_, _||_}
 use mathlib.Core.List.{List, [], _∷_}
 use mathlib.Core.Logic.{_⊎_, ⊎-elim, _↔_, Iff·rfl}
@@ -9,7 +9,7 @@ use native.Mathlib.Omega.{arith}
 use native.Mathlib.Decide.{decLt}
 use native.Mathlib.Nat.{add-zero}
 use lib.Dec.{leb}
-use lib.ListN.{length, getD, List·getD-eq-default}
+use lib.ListN.{length, getD}
 use Rattle.defs.specs.declared.Position.{Position}
 use Rattle.defs.specs.Meaning.Outline.{sides, KeepsOrder}
 use Rattle.defs.specs.Meaning.Turn.{turned}
@@ -19,7 +19,7 @@ use Rattle.defs.specs.Computing.Search.{enteredColumn, enteredFrom, entered}
 use Rattle.geom.proofs.Stretches.{stretches-are, no-rows}
 use Rattle.laws.proofs.Tests.{Decides, leb-decides, and-decides, or-decides, decides-by}
 use Rattle.tables.proofs.Columns.{entered-past}
-use Rattle.tables.proofs.Tables.{In, Table}
+use Rattle.tables.proofs.Tables.{In, in-table, Table}
 use Rattle.tables.proofs.Moved.{moved-cells, moved-on-strip}
 
 entered-at-from : (W : ℕ) (piece : List (List Rows)) (p : Position) (k : ℕ) (held : List (List Rows)) (i : ℕ) → i < length held →
@@ -30,6 +30,17 @@ entered-at-from W piece p k (b ∷ bs) zero h = ap (λ (a : ℕ). enteredColumn 
 entered-at-from W piece p k (b ∷ bs) (suc i) h =
     entered-at-from W piece p (suc k) bs i (omega arith) ∙
     ap (λ (a : ℕ). enteredColumn W piece p (getD bs i []) a) (omega arith)
+
+pub entered-at : (W : ℕ) (piece : List (List Rows)) (p : Position) (held : List (List Rows)) (i : ℕ) → i < length held →
+    getD (enteredFrom W piece p 0 held) i [] ≡ enteredColumn W piece p (getD held i []) i
+entered-at W piece p held i h =
+    entered-at-from W piece p 0 held i h ∙ ap (λ (a : ℕ). enteredColumn W piece p (getD held i []) a) (omega arith)
+
+pub entered-length : (W : ℕ) (piece : List (List Rows)) (p : Position) (k : ℕ) (held : List (List Rows)) →
+    length (enteredFrom W piece p k held) ≡ length held
+unfolding enteredFrom
+entered-length W piece p k [] = refl
+entered-length W piece p k (b ∷ bs) = ap suc (entered-length W piece p (suc k) bs)
 
 module _ (W R N : ℕ) (held : List (List Rows)) (o : List ℕ) (p : Position)
     (keeps : KeepsOrder (turned o (p .turn))) (some : 0 < sides o) (Rpos : 1 ≤ R)
@@ -42,16 +53,7 @@ module _ (W R N : ℕ) (held : List (List Rows)) (o : List ℕ) (p : Position)
 
   column-is : (i : ℕ) → i < length held → getD (entered W R held o p) i [] ≡ stretches (row-test i) W []
   unfolding entered enteredColumn row-test
-  column-is i l =
-      entered-at-from W (pieceRuns o (p .turn) R) p 0 held i l ∙
-      ap (λ (a : ℕ). enteredColumn W (pieceRuns o (p .turn) R) p (getD held i []) a) (omega arith)
-
-  in-held : (i j : ℕ) → In held i j → i < length held
-  in-held i j e = go (decLt i (length held))
-    where
-      go : Dec (i < length held) → i < length held
-      go (yes l) = l
-      go (no l) = absurd (no-rows j (subst (λ (rs : List Rows). inRows rs j ≡ true) (List·getD-eq-default held [] (omega arith)) e))
+  column-is i l = entered-at W (pieceRuns o (p .turn) R) p held i l
 
   row-decides : (i j : ℕ) → Decides (row-test i j) (In held i j ⊎ cellsAt R o p i j)
   unfolding row-test
@@ -72,7 +74,7 @@ module _ (W R N : ℕ) (held : List (List Rows)) (o : List ℕ) (p : Position)
 
       limits : In held i j ⊎ cellsAt R o p i j → (i < length held) × (j < W)
       limits =
-          ⊎-elim (λ e. (in-held i j e, table .below i j e))
+          ⊎-elim (λ e. (in-table held i j e, table .below i j e))
           (λ c. omega (arith, table .long, moved-on-strip R o p keeps some Rpos W N on i j c))
 
       back : (i < length held) × (j < W) → In held i j ⊎ cellsAt R o p i j → In (entered W R held o p) i j

@@ -24,6 +24,7 @@ use Rattle.tables.proofs.FreeTest.{free-decides}
 -- the first of k, k + 1, .. (n of them) at which f finds something, and what it finds there
 pub record First {A : Type 0} (f : ℕ → Option A) (k n : ℕ) (a : A) : Type 0 where
   pub at : ℕ
+  pub from : k ≤ at
   pub below : at < k + n
   pub finds : f at ≡ some a
   pub before : (m : ℕ) → k ≤ m → m < at → f m ≡ none
@@ -45,12 +46,13 @@ first-at {A} f k (suc n) a e = go (f k) refl e (first-at f (suc k) n a)
         let t = later r in
         record {
           at = t .at;
+          from = omega (arith, t .from);
           below = omega (arith, t .below);
           finds = t .finds;
           before = from-next f k (t .at) q (t .before);
         }
     go (some b) q r later =
-        record { at = k; below = omega arith; finds = q ∙ r; before = λ m l u. absurd (omega arith) }
+        record { at = k; from = omega arith; below = omega arith; finds = q ∙ r; before = λ m l u. absurd (omega arith) }
 
 pub none-at : {A : Type 0} (f : ℕ → Option A) (k n : ℕ) → firstFrom f k n ≡ none → (m : ℕ) → k ≤ m → m < k + n → f m ≡ none
 unfolding firstFrom
@@ -62,6 +64,37 @@ none-at {A} f k (suc n) e = go (f k) refl e (none-at f (suc k) n)
         (m : ℕ) → k ≤ m → m < k + suc n → f m ≡ none
     go none q r later = from-next f k (k + suc n) q (λ m l u. later r m l (omega arith))
     go (some b) q r later = absurd (Option·some-ne-none b r)
+
+-- and back: what is found first is the first, and where nothing is found there is none
+
+-- the search by what is found at k
+from-here : {A : Type 0} (f : ℕ → Option A) (k n : ℕ) (x : Option A) → f k ≡ x →
+    firstFrom f k (suc n) ≡ elim x [ none ↦ firstFrom f (suc k) n | some b ↦ some b ]
+unfolding firstFrom
+from-here f k n x e = ap (λ y. elim y [ none ↦ firstFrom f (suc k) n | some b ↦ some b ]) e
+
+pub first-of : {A : Type 0} (f : ℕ → Option A) (k n : ℕ) (a : A) → First f k n a → firstFrom f k n ≡ some a
+first-of f k zero a h = absurd (omega (arith, h .from, h .below))
+first-of f k (suc n) a h =
+    ⊎-elim
+    (λ l.
+    from-here f k n none (h .before k (omega arith) l) ∙
+    first-of f (suc k) n a
+    (record {
+      at = h .at;
+      from = l;
+      below = omega (arith, h .below);
+      finds = h .finds;
+      before = λ m x y. h .before m (omega arith) y;
+    }))
+    (λ l. let e : k ≡ h .at = omega (arith, h .from) in from-here f k n (some a) (ap f e ∙ h .finds)) (lt-or-le k (h .at))
+
+pub none-of : {A : Type 0} (f : ℕ → Option A) (k n : ℕ) → ((m : ℕ) → k ≤ m → m < k + n → f m ≡ none) → firstFrom f k n ≡ none
+unfolding firstFrom
+none-of f k zero h = refl
+none-of f k (suc n) h =
+    from-here f k n none (h k (omega arith) (omega arith)) ∙
+    none-of f (suc k) n (λ m x y. h m (omega arith) (omega arith))
 
 -- what is found where a test passes
 if-true : {A : Type 0} (b : Bool) {x a : A} → cond b (some x) none ≡ some a → (b ≡ true) × (x ≡ a)

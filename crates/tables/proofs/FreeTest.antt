@@ -45,7 +45,7 @@ column-meets y r (x ∷ b) rs v =
     (or-decides (stretch-meets y r x rs (v .0)) (column-meets y r b rs (v .1)))
 
 -- a row of c that is a row of b when it is moved up by y
-abbrev Shares : ℕ → List Rows → List Rows → Type 0
+abbrev pub Shares : ℕ → List Rows → List Rows → Type 0
 Shares y c b = (j : ℕ) × Among c j × Among b (j + y)
 
 columns-meet : (y : ℕ) (c b : List Rows) → Valid c → Valid b → Decides (any (λ (x : Rows). any (meets y x) b) c) (Shares y c b)
@@ -57,7 +57,7 @@ columns-meet y (x ∷ c) b u v =
     (or-decides (column-meets y x b (u .0) v) (columns-meet y c b (u .1) v))
 
 -- Past the end of either list there is no row.
-test-by-column : (y : ℕ) (piece strip : List (List Rows)) → ((i : ℕ) → Valid (getD piece i [])) → ((i : ℕ) → Valid (getD strip i [])) →
+pub test-by-column : (y : ℕ) (piece strip : List (List Rows)) → ((i : ℕ) → Valid (getD piece i [])) → ((i : ℕ) → Valid (getD strip i [])) →
     Decides (freeb y piece strip) ((i : ℕ) → ¬ Shares y (getD piece i []) (getD strip i []))
 unfolding freeb Among
 test-by-column y [] strip u v = (λ e i s. s .1, λ h. refl)
@@ -71,7 +71,7 @@ test-by-column y (c ∷ cs) (b ∷ bs) u v =
     each h zero = h .0
     each h (suc i) = h .1 i
 
-dropN-at : (n : ℕ) (bs : List (List Rows)) (i : ℕ) → getD (dropN n bs) i [] ≡ getD bs (n + i) []
+pub dropN-at : (n : ℕ) (bs : List (List Rows)) (i : ℕ) → getD (dropN n bs) i [] ≡ getD bs (n + i) []
 unfolding dropN
 dropN-at zero bs i = ap (λ (k : ℕ). getD bs k []) (omega arith)
 dropN-at (suc n) [] i = refl
@@ -79,7 +79,7 @@ dropN-at (suc n) (b ∷ bs) i =
     let e : suc (n + i) ≡ suc n + i = omega arith in
     dropN-at n bs i ∙ ap (λ (k : ℕ). getD (b ∷ bs) k []) e
 
-runs-valid : (o : List ℕ) (t R i : ℕ) → Valid (getD (pieceRuns o t R) i [])
+pub runs-valid : (o : List ℕ) (t R i : ℕ) → Valid (getD (pieceRuns o t R) i [])
 unfolding pieceRuns Valid
 runs-valid o t R i =
     listFrom-each Valid (λ k. stretches (coveredb (turned o t) R k) (extentY o t) []) []

@@ -1,5 +1,7 @@
 pub mod Tables
 pub mod Columns
+pub mod Flats
+pub mod PieceWords
 pub mod Held
 pub mod Sets
 pub mod Moved
@@ -8,3 +10,10 @@ pub mod Records
 pub mod FreeTest
 pub mod FirstFree
 pub mod Searching
+pub mod Ranges
+pub mod Once
+pub mod Laid
+pub mod LaidFormed
+pub mod WrittenWords
+pub mod Written
+pub mod Strips

@@ -84,3 +84,36 @@ impl Drop for Guarded {
         }
     }
 }
+
+/// A place for one buffer after another, each of them directly before the same
+/// unreadable page, with words before it that must stay.
+pub struct Room {
+    pages: Guarded,
+}
+
+/// The words watched before a buffer.
+const MARGIN: [u16; 16] = [0xD7C3; 16];
+
+impl Room {
+    /// For buffers of up to so many words.
+    pub fn new(most: usize) -> Room {
+        Room {
+            pages: Guarded::new(&vec![0; most + MARGIN.len()]),
+        }
+    }
+
+    /// A buffer with these words.
+    pub fn lend(&mut self, words: &[u16]) -> &mut [u16] {
+        let start = self.pages.len() - words.len();
+        self.pages[start - MARGIN.len()..start].copy_from_slice(&MARGIN);
+        let lent = &mut self.pages[start..];
+        lent.copy_from_slice(words);
+        lent
+    }
+
+    /// Whether the words before a buffer of so many words stayed.
+    pub fn kept_before(&self, words: usize) -> bool {
+        let start = self.pages.len() - words;
+        self.pages[start - MARGIN.len()..start] == MARGIN
+    }
+}

@@ -133,45 +133,88 @@ fn column(all: &[Edge], cuts: &[i64], from: i64, to: i64, rows: &mut Vec<(i64, i
     rows.truncate(kept);
 }
 
-pub fn cover(outline: &[u16], turn: u16, r: u16, output: &mut [u16]) -> Result<u32, Refusal> {
-    let no = |number, ordinal| Err(Refusal { number, ordinal });
-    if !(1..=400).contains(&r) {
-        return no(3, 0);
-    }
-    if outline.len() % 2 != 0 || !(6..=128).contains(&outline.len()) {
-        return no(7, 1);
-    }
-    if outline.iter().any(|&x| x > 16_000) {
-        return no(8, 1);
-    }
-    if turn > 3 {
-        return no(9, 1);
-    }
-    let vertices = turned(outline, turn);
-    let all = edges(&vertices);
-    for i in 0..all.len() {
-        if all[..i].iter().any(|f| change_order(&all[i], f)) {
-            return no(10, 1);
+/// An outline in a turn.
+pub struct Turned {
+    edges: Vec<Edge>,
+    /// The x's of its vertices, rising.
+    cuts: Vec<i64>,
+    h: i64,
+}
+
+impl Turned {
+    pub fn new(outline: &[u16], turn: u16) -> Turned {
+        let vertices = turned(outline, turn);
+        let mut cuts: Vec<i64> = vertices.iter().map(|v| v.0).collect();
+        cuts.sort_unstable();
+        cuts.dedup();
+        Turned {
+            edges: edges(&vertices),
+            cuts,
+            h: vertices.iter().map(|v| v.1).max().unwrap_or(0),
         }
     }
-    let mut cuts: Vec<i64> = vertices.iter().map(|v| v.0).collect();
-    cuts.sort_unstable();
-    cuts.dedup();
-    let (w, r) = (*cuts.last().unwrap_or(&0), i64::from(r));
-    let mut runs: Vec<[u16; 3]> = Vec::new();
-    let mut rows = Vec::new();
-    for i in 0..(w + r - 1) / r {
-        column(&all, &cuts, i * r, ((i + 1) * r).min(w), &mut rows);
-        runs.extend(
-            rows.iter()
-                .map(|&(low, high)| [i as u16, low as u16, high as u16]),
-        );
+
+    /// The greatest x and y.
+    pub fn extent(&self) -> (i64, i64) {
+        (*self.cuts.last().unwrap_or(&0), self.h)
     }
+
+    /// Question 10 of this turn.
+    pub fn keeps_order(&self) -> bool {
+        let all = &self.edges;
+        (0..all.len()).all(|i| !all[..i].iter().any(|f| change_order(&all[i], f)))
+    }
+
+    /// The runs (column, low, high), by column then low.
+    pub fn runs(&self, r: u16) -> Vec<[u16; 3]> {
+        let (w, r) = (self.extent().0, i64::from(r));
+        let mut runs = Vec::new();
+        let mut rows = Vec::new();
+        for i in 0..(w + r - 1) / r {
+            let to = ((i + 1) * r).min(w);
+            column(&self.edges, &self.cuts, i * r, to, &mut rows);
+            runs.extend(
+                rows.iter()
+                    .map(|&(low, high)| [i as u16, low as u16, high as u16]),
+            );
+        }
+        runs
+    }
+}
+
+pub fn no(number: u16, ordinal: u16) -> Refusal {
+    Refusal { number, ordinal }
+}
+
+/// Questions 7 and 8.
+pub fn ask_7_and_8(outline: &[u16]) -> Result<(), Refusal> {
+    if !outline.len().is_multiple_of(2) || !(6..=128).contains(&outline.len()) {
+        return Err(no(7, 1));
+    }
+    if outline.iter().any(|&x| x > 16_000) {
+        return Err(no(8, 1));
+    }
+    Ok(())
+}
+
+pub fn cover(outline: &[u16], turn: u16, r: u16, output: &mut [u16]) -> Result<u32, Refusal> {
+    if !(1..=400).contains(&r) {
+        return Err(no(3, 0));
+    }
+    ask_7_and_8(outline)?;
+    if turn > 3 {
+        return Err(no(9, 1));
+    }
+    let piece = Turned::new(outline, turn);
+    if !piece.keeps_order() {
+        return Err(no(10, 1));
+    }
+    let runs = piece.runs(r);
     if runs.is_empty() {
-        return no(11, 1);
+        return Err(no(11, 1));
     }
     if 3 * runs.len() > output.len() {
-        return no(12, 1);
+        return Err(no(12, 1));
     }
     for (place, run) in output.chunks_exact_mut(3).zip(&runs) {
         place.copy_from_slice(run);

@@ -17,7 +17,8 @@ pub use sheets::{
     damaged_sheet, damaged_sheet_at, sound_sheet, DamagedSheet, SheetDamage, SheetPlan,
 };
 pub use strips::{
-    damaged_strip, empty_strip, random_runs, sound_strip, strip_with, Damage, StripFigures,
+    change_words, damaged_strip, empty_strip, random_runs, sound_strip, strip_with, Damage,
+    StripFigures,
 };
 
 use crate::figures::Figures;

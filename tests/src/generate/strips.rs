@@ -86,6 +86,23 @@ pub fn empty_strip(random: &mut Random, n: u16, q: usize) -> Vec<u16> {
         .collect()
 }
 
+/// Changes one to three words of a strip that has some, each to one that might
+/// stand there by mistake. The strip may be well formed or not after it.
+pub fn change_words(random: &mut Random, strip: &mut [u16]) {
+    for _ in 0..random.between(1, 3) {
+        let (place, other) = (random.index(strip.len()), random.index(strip.len()));
+        let word = strip[place];
+        match random.index(6) {
+            0 => strip[place] = word.wrapping_add(1),
+            1 => strip[place] = word.wrapping_sub(1),
+            2 => strip[place] = 0,
+            3 => strip[place] = strip[other],
+            4 => strip[place] = random.word(0, 65_535),
+            _ => strip.swap(place, other),
+        }
+    }
+}
+
 /// The words of a strip while it is made.
 struct Words {
     strip: Vec<u16>,
@@ -155,6 +172,8 @@ pub enum Damage {
     ColumnsOver,
     /// N is in its limits and the strip has fewer words than heads.
     ColumnsBeyondWords,
+    /// N is four more or fewer, for which the length is right with another Q.
+    ColumnsShifted,
     /// No record: Q 0.
     NoRecords,
     /// Q 16,001.
@@ -173,6 +192,8 @@ pub enum Damage {
     FreeSharesTail,
     /// A column's chain ends in the free chain.
     ColumnRunsIntoFree,
+    /// Two columns have each other's chain.
+    HeadsSwapped,
     WrongColumn,
     TouchingRuns,
     OverlappingRuns,
@@ -187,6 +208,16 @@ pub enum Damage {
     FreeInNoChain,
     /// A record with a run in no chain.
     RunInNoChain,
+    /// A column's chain ends before its last record.
+    ColumnChainCut,
+    /// The free chain ends before its last record.
+    FreeChainCut,
+    /// Free records that loop, apart from a free chain that ends.
+    LoopOffChain,
+    /// A record with a run, in the free chain alone.
+    RunOnFreeChain,
+    /// A free record, in a column's chain alone.
+    FreeOnColumnChain,
     /// A column's first record is the first of another column too.
     InTwoChains,
     NextPastQ,
@@ -196,7 +227,7 @@ pub enum Damage {
 }
 
 impl Damage {
-    pub const ALL: [Damage; 34] = [
+    pub const ALL: [Damage; 41] = [
         Damage::WidthZero,
         Damage::WidthOver,
         Damage::ResolutionZero,
@@ -204,6 +235,7 @@ impl Damage {
         Damage::ColumnsZero,
         Damage::ColumnsOver,
         Damage::ColumnsBeyondWords,
+        Damage::ColumnsShifted,
         Damage::NoRecords,
         Damage::TooManyRecords,
         Damage::CutOff,
@@ -214,6 +246,7 @@ impl Damage {
         Damage::ColumnsShareTail,
         Damage::FreeSharesTail,
         Damage::ColumnRunsIntoFree,
+        Damage::HeadsSwapped,
         Damage::WrongColumn,
         Damage::TouchingRuns,
         Damage::OverlappingRuns,
@@ -226,6 +259,11 @@ impl Damage {
         Damage::FreeHigh,
         Damage::FreeInNoChain,
         Damage::RunInNoChain,
+        Damage::ColumnChainCut,
+        Damage::FreeChainCut,
+        Damage::LoopOffChain,
+        Damage::RunOnFreeChain,
+        Damage::FreeOnColumnChain,
         Damage::InTwoChains,
         Damage::NextPastQ,
         Damage::FreeNextPastQ,
@@ -306,6 +344,10 @@ fn damaged_words(random: &mut Random, mut words: Words, damage: Damage) -> Vec<u
         Damage::ColumnsBeyondWords => {
             words.strip[2] = random.word(words.strip.len() as u16 - 3, 4_096);
         }
+        Damage::ColumnsShifted => {
+            let fewer = n >= 5 && random.once_in(2);
+            words.strip[2] = if fewer { n - 4 } else { n + 4 };
+        }
         Damage::CutOff => {
             let length = random.index(words.strip.len());
             words.strip.truncate(length);
@@ -320,6 +362,7 @@ fn damaged_words(random: &mut Random, mut words: Words, damage: Damage) -> Vec<u
         Damage::ColumnsShareTail => words.set(last, NEXT, random.pick(&other_chain)),
         Damage::FreeSharesTail => words.set(last_free, NEXT, some),
         Damage::ColumnRunsIntoFree => words.set(last, NEXT, some_free),
+        Damage::HeadsSwapped => words.strip.swap(4, 5),
         Damage::WrongColumn => {
             let column = random.pick(&[1 - first_column as u16, 2, n, n + 1, 65_535]);
             words.set(some, COLUMN, column);
@@ -361,6 +404,26 @@ fn damaged_words(random: &mut Random, mut words: Words, damage: Damage) -> Vec<u
         Damage::FreeHigh => words.set(some_free, HIGH, random.word(1, 65_535)),
         Damage::FreeInNoChain => words.strip[3] = free[1],
         Damage::RunInNoChain => words.strip[4 + first_column] = chain[1],
+        Damage::ColumnChainCut => words.set(chain[0], NEXT, 0),
+        Damage::FreeChainCut => {
+            let place = random.index(free.len() - 1);
+            words.set(free[place], NEXT, 0);
+        }
+        Damage::LoopOffChain => {
+            let place = random.index(free.len() - 1);
+            words.set(free[place], NEXT, 0);
+            words.set(last_free, NEXT, free[place + 1]);
+        }
+        Damage::RunOnFreeChain => {
+            words.strip[4 + first_column] = chain[1];
+            words.set(chain[0], NEXT, free[0]);
+            words.strip[3] = chain[0];
+        }
+        Damage::FreeOnColumnChain => {
+            words.strip[3] = free[1];
+            words.set(free[0], NEXT, chain[0]);
+            words.strip[4 + first_column] = free[0];
+        }
         Damage::InTwoChains => words.strip[4 + 2] = chain[0],
         Damage::NextPastQ => words.set(some, NEXT, words.past_q(random)),
         Damage::FreeNextPastQ => words.set(some_free, NEXT, words.past_q(random)),

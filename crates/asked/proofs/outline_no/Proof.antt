@@ -1,73 +1,39 @@
--- `asked::outline_no` meets its contract: the questions are asked in their order, and each "no" ends them. What is asked before
--- gives each call what it requires.
+-- `asked::outline_no` meets its contract: 11 is asked where none of 7 to 10 gets "no", which gives its call what it requires.
 -- Assumes nothing.
-use mathlib.Core.Path.{refl}
 use borrow.Author.Needs.{needs}
 use Rattle.geom.proofs.Checks.{question-10}
 use Rattle.checks.proofs.Turned.{lent-of}
-use Rattle.asked.proofs.InOrder.{said-no, said-yes, no-7, no-8, no-9, no-10, no-11, no-no}
+use Rattle.asked.proofs.InOrder.{ordered, some-no, no-11, no-no}
 use Rattle.asked.proofs.outline_no.Statement.{statement}
 use Rattle.asked.proofs.outline_no.Tie as tie
 
-seven-requires : tie.Need-seven-requires
-seven-requires c κs = search needs
+order-no-requires : tie.Need-order-no-requires
+order-no-requires c κs = search needs
 
 returns : tie.Need-returns
-returns c = no-7 _ _ _ (said-no (c .before .seven .ensures) (c .if1 .taken))
-
-eight-requires : tie.Need-eight-requires
-eight-requires c κs = search needs
-
-returns-2 : tie.Need-returns-2
-returns-2 c = no-8 _ _ _ (said-yes (c .before .before .before .seven .ensures) (c .before .before .if1 .left)) (said-no (c .before .eight .ensures) (c .if2 .taken))
-
-returns-3 : tie.Need-returns-3
-returns-3 c =
-    no-9 _ _ _ (said-yes (c .before .before .before .before .seven .ensures) (c .before .before .before .if1 .left)) (said-yes (c .before .before .eight .ensures) (c .before .if2 .left)) (said-no refl (c .if3 .taken))
+returns c = some-no _ _ _ (c .before .order-no .ensures) (c .if1 .taken)
 
 bounds-of-requires : tie.Need-bounds-of-requires
 bounds-of-requires c κs =
-    lent-of _ (said-yes (c .before .before .before .before .seven .ensures) (c .before .before .before .if1 .left)) (said-yes (c .before .before .eight .ensures) (c .before .if2 .left))
-
-all-keep-order-requires : tie.Need-all-keep-order-requires
-all-keep-order-requires c κs = (
-  lent-of _ (said-yes (c .before .before .before .before .before .seven .ensures) (c .before .before .before .before .if1 .left)) (said-yes (c .before .before .before .eight .ensures) (c .before .before .if2 .left)),
-  c .bounds-of .ensures,
-)
-
-returns-4 : tie.Need-returns-4
-returns-4 c =
-    no-10 _ _ _ (said-yes (c .before .before .before .before .before .before .before .seven .ensures) (c .before .before .before .before .before .before .if1 .left)) (said-yes (c .before .before .before .before .before .eight .ensures) (c .before .before .before .before .if2 .left)) (said-yes refl (c .before .before .before .if3 .left))
-    (said-no (c .before .all-keep-order .ensures) (c .if4 .taken))
+    let y = ordered _ _ _ (c .before .order-no .ensures) (c .if1 .left) in
+    lent-of _ (y .seven) (y .eight)
 
 some-cell-requires : tie.Need-some-cell-requires
-some-cell-requires c κs = (
-  lent-of _ (said-yes (c .before .before .before .before .before .before .before .seven .ensures) (c .before .before .before .before .before .before .if1 .left)) (said-yes (c .before .before .before .before .before .eight .ensures) (c .before .before .before .before .if2 .left)),
-  (c .before .before .bounds-of .ensures, question-10 _ _ .0 (said-yes (c .before .all-keep-order .ensures) (c .if4 .left))),
-)
+some-cell-requires c κs =
+    let y = ordered _ _ _ (c .before .before .order-no .ensures) (c .before .if1 .left) in
+    (lent-of _ (y .seven) (y .eight), (c .bounds-of .ensures, question-10 _ _ .0 (y .ten)))
 
-returns-5 : tie.Need-returns-5
-returns-5 c =
-    no-11 _ _ _ (said-yes (c .before .before .before .before .before .before .before .before .before .seven .ensures) (c .before .before .before .before .before .before .before .before .if1 .left)) (said-yes (c .before .before .before .before .before .before .before .eight .ensures) (c .before .before .before .before .before .before .if2 .left)) (said-yes refl (c .before .before .before .before .before .if3 .left))
-    (said-yes (c .before .before .before .all-keep-order .ensures) (c .before .before .if4 .left)) (c .before .some-cell .ensures) (c .if5 .taken)
+returns-2 : tie.Need-returns-2
+returns-2 c =
+    no-11 _ _ _ (ordered _ _ _ (c .before .before .before .before .order-no .ensures) (c .before .before .before .if1 .left))
+    (c .before .some-cell .ensures) (c .if2 .taken)
 
-returns-6 : tie.Need-returns-6
-returns-6 c =
-    no-no _ _ _ (said-yes (c .before .before .before .before .before .before .before .before .before .seven .ensures) (c .before .before .before .before .before .before .before .before .if1 .left)) (said-yes (c .before .before .before .before .before .before .before .eight .ensures) (c .before .before .before .before .before .before .if2 .left)) (said-yes refl (c .before .before .before .before .before .if3 .left))
-    (said-yes (c .before .before .before .all-keep-order .ensures) (c .before .before .if4 .left)) (c .before .some-cell .ensures) (c .if5 .left)
+returns-3 : tie.Need-returns-3
+returns-3 c =
+    no-no _ _ _ (ordered _ _ _ (c .before .before .before .before .order-no .ensures) (c .before .before .before .if1 .left))
+    (c .before .some-cell .ensures) (c .if2 .left)
 
 pub outline-no-spec : {M : Type 1} → statement M
 outline-no-spec =
     tie.close
-    (tie.spec
-    seven-requires
-    returns
-    eight-requires
-    returns-2
-    returns-3
-    bounds-of-requires
-    all-keep-order-requires
-    returns-4
-    some-cell-requires
-    returns-5
-    returns-6)
+    (tie.spec order-no-requires returns bounds-of-requires some-cell-requires returns-2 returns-3)

@@ -16,7 +16,7 @@ use Rattle.cells.proofs.put_runs.Tie as tie
 abbrev Inv-loop : tie.InvT-loop
 Inv-loop o b t r w out₀ h0₀ h1₀ d₀ g0₀ g1₀ lows₀ highs₀ f₀ k₀ i₀ from₀ out h0 h1 d g0 g1 lows highs f k i from =
     Putting (columnRuns o t r) w r out₀ out i from k ×
-    Working (turned o t) (f .slab .start) (f .slab .end) (f .slab .count) h0 h1 d g0 g1 lows highs ×
+    Working (turned o t) (f .slab .start) (f .slab .end) (f .slab .count) (f .slab .cut) h0 h1 d g0 g1 lows highs ×
     (length lows ≡ 8001) × (length highs ≡ 8001)
 
 abbrev μ-loop : tie.MeasureT-loop
@@ -28,7 +28,7 @@ nothing-requires c κs = search needs
 
 loop-holds : tie.Need-loop-holds Inv-loop μ-loop
 loop-holds c =
-    (putting-start _ _ _ _, at-work refl refl refl refl refl refl refl (λ l. absurd (omega (arith, c .nothing .ensures))), refl, refl)
+    (putting-start _ _ _ _, at-work refl refl refl refl refl refl refl (λ l. absurd (omega (arith, c .nothing .ensures .0))) (record { none = λ i l h. omega (arith, c .nothing .ensures .1) }), refl, refl)
 
 end-of-requires : tie.Need-end-of-requires Inv-loop μ-loop
 end-of-requires c κs = search needs
@@ -88,7 +88,7 @@ loop-again c = (
   let i = c .before .before .before .before .before .before .before .before .before .before .before .before .before .before .before .before .before .before .before .before .before .before .before .loop .inv .1 in
       at-work (omega (arith, i .buffers .left)) (omega (arith, i .buffers .right)) (omega (arith, i .buffers .wide))
       (omega (arith, i .part-left)) (omega (arith, i .part-right)) (omega (arith, c .before .before .before .before .before .before .before .before .before .before .before .before .before .before .before .before .before .before .before .before .before .before .before .loop .inv .2))
-      (omega (arith, c .before .before .before .before .before .before .before .before .before .before .before .before .before .before .before .before .before .before .before .before .before .before .before .loop .inv .3)) (c .before .before .before .before .before .before .before .before .before .before .before .before .before .column .ensures .kept),
+      (omega (arith, c .before .before .before .before .before .before .before .before .before .before .before .before .before .before .before .before .before .before .before .before .before .before .before .loop .inv .3)) (c .before .before .before .before .before .before .before .before .before .before .before .before .before .column .ensures .kept) (c .before .before .before .before .before .before .before .before .before .before .before .before .before .column .ensures .next),
   omega (arith, c .before .before .before .before .before .before .before .before .before .before .before .before .before .before .before .before .before .before .before .before .before .before .before .loop .inv .2),
   omega (arith, c .before .before .before .before .before .before .before .before .before .before .before .before .before .before .before .before .before .before .before .before .before .before .before .loop .inv .3),
 )

@@ -16,7 +16,7 @@ use Rattle.column.proofs.column.Statement.{statement}
 use Rattle.column.proofs.column.Tie as tie
 
 abbrev Inv-loop : tie.InvT-loop
-Inv-loop o b t from to h0₀ h1₀ w₀ g0₀ g1₀ lows₀ highs₀ k₀ n₀ a₀ h0 h1 w g0 g1 lows highs k n a = (from ≤ a) × (a ≤ to) × Working (turned o t) (k .start) (k .end) (k .count) h0 h1 w g0 g1 lows highs × (length lows ≡ length lows₀) × (length highs ≡ length highs₀) × Adds (InUnits (turned o t) from a) lows₀ highs₀ lows highs 0 n
+Inv-loop o b t from to h0₀ h1₀ w₀ g0₀ g1₀ lows₀ highs₀ k₀ n₀ a₀ h0 h1 w g0 g1 lows highs k n a = (from ≤ a) × (a ≤ to) × Working (turned o t) (k .start) (k .end) (k .count) (k .cut) h0 h1 w g0 g1 lows highs × (length lows ≡ length lows₀) × (length highs ≡ length highs₀) × Adds (InUnits (turned o t) from a) lows₀ highs₀ lows highs 0 n
 
 abbrev μ-loop : tie.MeasureT-loop
 μ-loop o b t from to h0₀ h1₀ w₀ g0₀ g1₀ lows₀ highs₀ k₀ n₀ a₀ h0 h1 w g0 g1 lows highs k n a = to - a
@@ -49,9 +49,9 @@ loop-again : tie.Need-loop-again Inv-loop μ-loop
 loop-again c = (
   omega (arith, c .before .before .before .before .before .before .before .before .before .before .before .before .before .before .before .before .less .ensures, c .before .before .before .before .before .before .before .before .before .before .before .before .before .before .before .before .before .before .before .before .before .before .before .held .ensures .to, c .before .before .before .before .before .before .before .before .before .before .before .before .before .before .before .before .before .before .before .before .before .before .before .before .before .before .before .loop-test .taken, c .before .before .before .before .before .before .before .before .before .before .before .before .before .before .before .before .before .before .before .before .before .before .before .before .before .before .before .before .loop .inv .0),
   omega (arith, c .before .before .before .before .before .before .before .before .before .before .before .before .before .before .before .before .less .ensures),
-  working-on (c .before .before .before .before .before .before .before .before .before .before .before .before .before .before .before .before .before .before .before .before .before .before .before .before .before .before .before .before .loop .inv .2) (c .before .before .before .before .before .before .before .before .before .before .before .before .before .before .before .before .before .before .before .before .before .before .before .held .ensures .kept) (omega arith) (omega arith) (omega arith) (omega arith) (omega arith) (omega arith) (omega arith),
-  search needs,
-  search needs,
+  working-on (c .before .before .before .before .before .before .before .before .before .before .before .before .before .before .before .before .before .before .before .before .before .before .before .before .before .before .before .before .loop .inv .2) (c .before .before .before .before .before .before .before .before .before .before .before .before .before .before .before .before .before .before .before .before .before .before .before .held .ensures) (omega arith) (omega arith) (omega arith) (omega arith) (omega arith) (omega arith) (omega arith),
+  omega (arith, c .before .before .before .before .before .before .before .before .before .before .before .before .before .before .before .before .before .before .before .before .before .before .before .before .before .before .before .before .loop .inv .3),
+  omega (arith, c .before .before .before .before .before .before .before .before .before .before .before .before .before .before .before .before .before .before .before .before .before .before .before .before .before .before .before .before .loop .inv .4),
   units-more (c .before .before .before .before .before .before .before .before .before .before .before .before .before .before .before .before .before .before .before .before .before .before .before .before .before .before .before .before .before .before .before .before .before .before .before .before .before .pre .0) (c .before .before .before .before .before .before .before .before .before .before .before .before .before .before .before .before .before .before .before .before .before .before .before .before .before .before .before .before .before .before .before .before .before .before .before .before .before .pre .1 .0) _ (c .before .before .before .before .before .before .before .before .before .before .before .before .before .before .before .before .before .before .before .before .before .before .before .before .before .before .before .before .before .before .before .before .before .before .before .before .before .pre .1 .1 .0 .0) (c .before .before .before .before .before .before .before .before .before .before .before .before .before .before .before .before .before .before .before .before .before .before .before .before .before .before .before .before .before .before .before .before .before .before .before .before .before .pre .1 .1 .1 .0) _ (c .before .before .before .before .before .before .before .before .before .before .before .before .before .before .before .before .before .before .before .before .before .before .before .before .before .before .before .before .loop .inv .0)
       (part-neat (c .before .before .before .before .before .before .before .before .before .before .before .before .before .before .before .before .before .before .before .before .before .before .before .held .ensures .kept .neat) (c .before .before .before .before .before .before .before .before .before .before .before .before .before .before .before .before .before .before .before .before .before .before .before .held .ensures .from) (omega (arith, c .before .before .before .before .before .before .before .before .before .before .before .before .before .before .before .before .less .ensures, c .before .before .before .before .before .before .before .before .before .before .before .before .before .before .before .before .before .before .before .before .before .before .before .held .ensures .to, c .before .before .before .before .before .before .before .before .before .before .before .before .before .before .before .before .before .before .before .before .before .before .before .before .before .before .before .loop-test .taken)) (omega (arith, c .before .before .before .before .before .before .before .before .before .before .before .before .before .before .before .before .less .ensures)))
       (c .before .before .before .before .before .before .before .before .before .before .before .before .before .before .before .before .before .before .before .before .before .before .before .before .before .before .before .before .loop .inv .5) (c .before .before .before .before .before .before .before .before .portion .ensures .rows _ (c .before .before .before .before .before .before .before .before .before .before .before .before .before .before .before .before .before .before .before .before .before .before .before .held .ensures .kept)),
@@ -83,7 +83,7 @@ returns c =
     column-of (c .before .before .before .before .before .before .before .before .before .before .pre .1 .1 .1 .1 .buffers)
     (units-end (c .before .before .before .before .before .before .before .before .before .before .pre .0) (c .before .before .before .before .before .before .before .before .before .before .pre .1 .0) _ (c .before .before .before .before .before .before .before .before .before .before .pre .1 .1 .0 .0) (c .before .before .before .before .before .before .before .before .before .before .pre .1 .1 .1 .0) _ _ _ (c .before .loop .inv .5) (omega arith))
     (row-limit (c .before .before .before .before .before .before .before .before .before .before .pre .0) (c .before .before .before .before .before .before .before .before .before .before .pre .1 .0) _ (c .before .before .before .before .before .before .before .before .before .before .pre .1 .1 .0 .0) (c .before .before .before .before .before .before .before .before .before .before .pre .1 .1 .1 .0) _ _)
-    (c .before .loop .inv .3) (c .before .loop .inv .4) (c .before .loop .inv .2 .kept)
+    (c .before .loop .inv .3) (c .before .loop .inv .4) (c .before .loop .inv .2 .kept) (c .before .loop .inv .2 .next)
 
 pub column-spec : {M : Type 1} → statement M
 column-spec =

@@ -12,16 +12,19 @@ use Rattle.column.proofs.cut.Statement.{statement}
 use Rattle.column.proofs.cut.Tie as tie
 
 abbrev Inv-loop : tie.InvT-loop
-Inv-loop o b t a to n r₀ i₀ r i = (i ≤ n) × (n ≡ sides o) × CutAt (turned o t) a to i r
+Inv-loop o b t a to n f r₀ i₀ r i = (i ≤ n) × (n ≡ sides o) × CutAt (turned o t) a i r
 
 abbrev μ-loop : tie.MeasureT-loop
-μ-loop o b t a to n r₀ i₀ r i = n - i
+μ-loop o b t a to n f r₀ i₀ r i = n - i
+
+frame-of-requires : tie.Need-frame-of-requires Inv-loop μ-loop
+frame-of-requires c κs = search needs
 
 loop-holds : tie.Need-loop-holds Inv-loop μ-loop
-loop-holds c = (search needs, search needs, cut-none _ _ _ (c .before .pre .1 .1 .1))
+loop-holds c = (search needs, search needs, cut-none _ _ _ (c .before .before .pre .1 .1 .1))
 
-vertex-at-requires : tie.Need-vertex-at-requires Inv-loop μ-loop
-vertex-at-requires c κs = search needs
+vertex-in-requires : tie.Need-vertex-in-requires Inv-loop μ-loop
+vertex-in-requires c κs = let p = c .before .before .before .before .pre in (p .0, (p .1 .0, ((p .1 .1 .0, omega (arith, c .loop-test .taken, c .before .loop .inv .1)), c .before .before .frame-of .ensures)))
 
 nearer-requires : tie.Need-nearer-requires Inv-loop μ-loop
 nearer-requires c κs = search needs
@@ -33,7 +36,7 @@ loop-less : tie.Need-loop-less Inv-loop μ-loop
 loop-less c = search needs
 
 loop-again : tie.Need-loop-again Inv-loop μ-loop
-loop-again c = (search needs, search needs, cut-more (c .before .before .before .loop .inv .2) (c .before .vertex-at .ensures) (c .nearer .ensures))
+loop-again c = (search needs, search needs, cut-more (c .before .before .before .loop .inv .2) (c .before .vertex-in .ensures) (c .nearer .ensures))
 
 returns : tie.Need-returns Inv-loop μ-loop
 returns c = cut-end (c .before .loop .inv .2) (omega arith)
@@ -44,8 +47,9 @@ cut-spec =
     (tie.spec
     Inv-loop
     μ-loop
+    frame-of-requires
     loop-holds
-    vertex-at-requires
+    vertex-in-requires
     nearer-requires
     add-i
     loop-less

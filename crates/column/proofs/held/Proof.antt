@@ -6,13 +6,18 @@ use Rattle.column.proofs.held.Statement.{statement}
 use Rattle.column.proofs.held.Tie as tie
 
 returns : tie.Need-returns
-returns c = record { from = c .before .before .if1 .taken; to = c .if2 .taken; kept = c .before .before .before .before .before .before .before .before .pre .1 .1 .1 .1 .kept (omega (arith, c .before .before .if1 .taken, c .if2 .taken)) }
+returns c =
+    let s = c .before .before .before .before .before .before .before .before .pre .1 .1 .1 .1 in
+    record { from = c .before .before .if1 .taken; to = c .if2 .taken; kept = s .kept (omega (arith, c .before .before .if1 .taken, c .if2 .taken)); next = s .next }
 
-more-requires : tie.Need-more-requires
-more-requires c κs = search needs
+slab-end-requires : tie.Need-slab-end-requires
+slab-end-requires c κs = search needs
 
 next-slab-requires : tie.Need-next-slab-requires
-next-slab-requires c κs = (c .before .before .before .before .before .before .before .before .before .before .pre .0, (c .before .before .before .before .before .before .before .before .before .before .pre .1 .0, ((c .before .before .before .before .before .before .before .before .before .before .pre .1 .1 .0 .0, omega (arith, c .before .before .before .more .ensures, c .before .before .before .before .before .before .before .before .before .before .pre .1 .1 .0 .1)), (c .before .before .before .before .before .before .before .before .before .before .pre .1 .1 .1 .0, (c .before .before .before .before .before .before .before .before .before .before .pre .1 .1 .1 .1 .left, c .before .before .before .before .before .before .before .before .before .before .pre .1 .1 .1 .1 .right, c .before .before .before .before .before .before .before .before .before .before .pre .1 .1 .1 .1 .wide)))))
+next-slab-requires c κs =
+    let p = c .before .before .before .before .before .before .before .before .before .before .pre in
+    let s = p .1 .1 .1 .1 in
+    (p .0, (p .1 .0, (p .1 .1 .1 .0, (c .before .before .before .slab-end .ensures, (p .1 .1 .0 .0, s .left, s .right, s .wide)))))
 
 same-length : tie.Need-same-length
 same-length c = search needs
@@ -24,14 +29,14 @@ same-length-3 : tie.Need-same-length-3
 same-length-3 c = search needs
 
 returns-2 : tie.Need-returns-2
-returns-2 c = c .before .before .before .before .before .before .next-slab .ensures
+returns-2 c = search needs
 
 pub held-spec : {M : Type 1} → statement M
 held-spec =
     tie.close
     (tie.spec
     returns
-    more-requires
+    slab-end-requires
     next-slab-requires
     same-length
     same-length-2

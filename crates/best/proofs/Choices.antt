@@ -1,0 +1,139 @@
+-- Choices by rank are the choices of the definitions.
+-- Assumes nothing.
+use mathlib.Core.Path.{_≡_, refl, sym, ap, ap₂, subst, _∙_}
+use mathlib.Core.Logic.{_≢_}
+use mathlib.Core.Bool.{Bool, true, false, cond, _&&_, _||_}
+use mathlib.Core.List.{List}
+use mathlib.Core.Option.{Option, none, some}
+use Prim.Native.Nat.{ℕ, suc, _+_, _≤_, _<_, max}
+use native.Mathlib.Omega.{arith}
+use lib.Dec.{ltb, eqb}
+use borrow.Author.Tests.{eq-eqb, ne-eqb, le-ltb}
+use Rattle.defs.specs.declared.Position.{Position}
+use Rattle.defs.specs.Computing.Cells.{Rows, pieceRuns, countRuns, allowedb, mostRuns}
+use Rattle.defs.specs.Computing.Search.{firstFree, beats, better, bestBelow}
+use Rattle.best.specs.Choice.{placeOf, RankOf, Ranks, beatsBy, betterBy, merged, Finds, OneTurn, TurnsTo}
+use Rattle.best.specs.declared.Ranked.{Ranked}
+use Rattle.best.specs.declared.Choice.{Choice}
+use Rattle.best.specs.declared.Choice.the-variants.{Chosen, Nowhere}
+use Rattle.best.specs.declared.Tried.{Tried}
+
+abbrev tried : ℕ → Choice → Tried
+tried n c = record { most = n; best = c }
+
+pub equal-end : (q p : Ranked) → q .end ≡ p .end → ltb (q .top) (p .top) ≡ beatsBy q p
+equal-end q p e = rw (le-ltb (q .end) (p .end) (omega arith), eq-eqb (q .end) (p .end) e) refl
+
+pub other-end : (q p : Ranked) → q .end ≢ p .end → ltb (q .end) (p .end) ≡ beatsBy q p
+other-end q p n = rw (ne-eqb (q .end) (p .end) n) (or-false (ltb (q .end) (p .end)))
+  where
+    or-false : (b : Bool) → b ≡ (b || false)
+    or-false true = refl
+    or-false false = refl
+
+-- the greater of two numbers of runs
+pub second-most : (s x : Tried) (c : Choice) → c ≡ betterBy (s .best) (x .best) → s .most < x .most →
+    _≡_ {A = Tried} (record { most = x .most; best = c }) (merged s x)
+second-most s x c e l = ap₂ tried (omega arith) e
+
+pub first-most : (s x : Tried) (c : Choice) → c ≡ betterBy (s .best) (x .best) → x .most ≤ s .most →
+    _≡_ {A = Tried} (record { most = s .most; best = c }) (merged s x)
+first-most s x c e l = ap₂ tried (omega arith) e
+
+-- a better choice, by the tests that were made
+pub better-second : {a b : Choice} {p q : Ranked} {r : Bool} → a ≡ Chosen p → b ≡ Chosen q → r ≡ beatsBy q p → r ≡ true →
+    Chosen q ≡ betterBy a b
+better-second e g f y = rw (e, g, sym f, y) refl
+
+pub better-first : {a b : Choice} {p q : Ranked} {r : Bool} → a ≡ Chosen p → b ≡ Chosen q → r ≡ beatsBy q p → r ≡ false →
+    Chosen p ≡ betterBy a b
+better-first e g f y = rw (e, g, sym f, y) refl
+
+pub better-only : {a b : Choice} {q : Ranked} → a ≡ Nowhere → b ≡ Chosen q → Chosen q ≡ betterBy a b
+better-only e g = rw (e, g) refl
+
+module _ (R : ℕ) (o : List ℕ) where
+  beats-rank : (q p : Ranked) → RankOf R o q → RankOf R o p → beatsBy q p ≡ beats R o (q .at) (p .at)
+  unfolding beats
+  beats-rank q p f g = rw (f .end, f .top, g .end, g .top) refl
+
+  -- the better of two choices is the definition's
+  better-place : (a b : Choice) → Ranks R o a → Ranks R o b → placeOf (betterBy a b) ≡ better R o (placeOf a) (placeOf b)
+  unfolding better
+  better-place Nowhere Nowhere f g = refl
+  better-place (Chosen p) Nowhere f g = refl
+  better-place Nowhere (Chosen q) f g = refl
+  better-place (Chosen p) (Chosen q) f g = rw (sym (beats-rank q p g f)) (go (beatsBy q p))
+    where
+      go : (b : Bool) → placeOf (cond b (Chosen q) (Chosen p)) ≡ cond b (some (q .at)) (some (p .at))
+      go true = refl
+      go false = refl
+
+  better-ranks : (a b : Choice) → Ranks R o a → Ranks R o b → Ranks R o (betterBy a b)
+  better-ranks Nowhere Nowhere f g = f
+  better-ranks (Chosen p) Nowhere f g = f
+  better-ranks Nowhere (Chosen q) f g = g
+  better-ranks (Chosen p) (Chosen q) f g = go (beatsBy q p)
+    where
+      go : (b : Bool) → Ranks R o (cond b (Chosen q) (Chosen p))
+      go true = g
+      go false = f
+
+  better-finds : {x y : Option Position} {a b : Choice} → Finds R o x a → Finds R o y b → Finds R o (better R o x y) (betterBy a b)
+  better-finds {a = a} {b = b} f g =
+      record {
+        is = better-place a b (f .ranks) (g .ranks) ∙ ap₂ (better R o) (f .is) (g .is);
+        ranks = better-ranks a b (f .ranks) (g .ranks);
+      }
+
+pub all-turns : {W R N : ℕ} {held : List (List Rows)} {o : List ℕ} {mask t words : ℕ} {s : Tried} → t ≤ 4 → 4 ≤ t →
+    TurnsTo W R N held o mask t words s → TurnsTo W R N held o mask 4 words s
+all-turns {t = t} a b h = let e : t ≡ 4 = omega arith in rw e at h
+
+-- The turns below 0, and one turn more.
+pub no-turns : (W R N : ℕ) (held : List (List Rows)) (o : List ℕ) (mask words : ℕ) →
+    TurnsTo W R N held o mask 0 words (record { most = 0; best = Nowhere })
+unfolding mostRuns bestBelow
+no-turns W R N held o mask words = record { most = refl; best = λ h. record { is = refl; ranks = tt } }
+
+module _ {W R N : ℕ} {held : List (List Rows)} {o : List ℕ} {mask t words : ℕ} {s : Tried} (so-far : TurnsTo W R N held o mask t words s) where
+  pub turn-more : {x : Tried} → allowedb mask t ≡ true → OneTurn W R N held o t words x →
+      TurnsTo W R N held o mask (t + 1) words (merged s x)
+  unfolding mostRuns bestBelow
+  turn-more {x} e one = let n : t + 1 ≡ suc t = omega arith in rw n (go e)
+    where
+      go : allowedb mask t ≡ true → TurnsTo W R N held o mask (suc t) words (merged s x)
+      go e =
+          record {
+            most = ap₂ max (so-far .most) (one .most) ∙ ap (λ (b : Bool). max (mostRuns o mask R t) (cond b (countRuns (pieceRuns o t R)) 0)) (sym e);
+            best =
+                λ h.
+                subst (λ (b : Bool). Finds R o (better R o (bestBelow W R N held o mask t) (cond b (firstFree W R N held o t) none)) (betterBy (s .best) (x .best)))
+                (sym e) (better-finds R o (so-far .best (omega arith)) (one .best (omega arith)));
+          }
+
+  better-none : (x : Option Position) → better R o x none ≡ x
+  unfolding better
+  better-none none = refl
+  better-none (some p) = refl
+
+  keep : (n : ℕ) → n ≡ max n 0
+  keep n = omega arith
+
+  pub turn-skipped : allowedb mask t ≡ false → TurnsTo W R N held o mask (t + 1) words s
+  unfolding mostRuns bestBelow
+  turn-skipped e = let n : t + 1 ≡ suc t = omega arith in rw n (go e)
+    where
+      go : allowedb mask t ≡ false → TurnsTo W R N held o mask (suc t) words s
+      go e =
+          record {
+            most =
+                so-far .most ∙ keep (mostRuns o mask R t) ∙
+                ap (λ (b : Bool). max (mostRuns o mask R t) (cond b (countRuns (pieceRuns o t R)) 0)) (sym e);
+            best =
+                λ h.
+                subst (λ (x : Option Position). Finds R o x (s .best))
+                (sym (better-none (bestBelow W R N held o mask t)) ∙
+                ap (λ (b : Bool). better R o (bestBelow W R N held o mask t) (cond b (firstFree W R N held o t) none)) (sym e))
+                (so-far .best h);
+          }

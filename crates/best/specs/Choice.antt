@@ -1,0 +1,83 @@
+-- What is chosen among turns. Assumes nothing.
+use mathlib.Core.Path.{_≡_}
+use mathlib.Core.Bool.{Bool, cond, _&&_, _||_}
+use mathlib.Core.List.{List}
+use mathlib.Core.Option.{Option, none, some}
+use Prim.Native.Nat.{ℕ, _+_, _*_, _≤_, max}
+use lib.Dec.{ltb, eqb}
+use lib.ListN.{length}
+use Rattle.defs.specs.declared.Position.{Position}
+use Rattle.defs.specs.Meaning.Placing.{endColumn, top}
+use Rattle.defs.specs.Computing.Cells.{Rows, pieceRuns, countRuns, mostRuns}
+use Rattle.defs.specs.Computing.Search.{firstFree, bestBelow}
+use Rattle.outline.specs.Vertex.{Lent, BoundsOf}
+use Rattle.tables.specs.Flat.{Laid, tableOf}
+use Rattle.walk.specs.declared.Spot.{Spot}
+use Rattle.walk.specs.declared.Spot.the-variants.{Found, None}
+use Rattle.best.specs.declared.Ranked.{Ranked}
+use Rattle.best.specs.declared.Choice.{Choice}
+use Rattle.best.specs.declared.Choice.the-variants.{Chosen, Nowhere}
+use Rattle.best.specs.declared.Tried.{Tried}
+
+-- the position of a choice
+abbrev pub placeOf : Choice → Option Position
+placeOf (Chosen b) = some (b .at)
+placeOf Nowhere = none
+
+-- the rank of a choice is that of its position
+pub record RankOf (R : ℕ) (o : List ℕ) (b : Ranked) : Type 0 where
+  pub end : b .end ≡ endColumn R o (b .at)
+  pub top : b .top ≡ top o (b .at)
+
+abbrev pub Ranks : ℕ → List ℕ → Choice → Type 0
+Ranks R o (Chosen b) = RankOf R o b
+Ranks R o Nowhere = Unit {0}
+
+-- `beats` and `better` of the definitions, by rank
+abbrev pub beatsBy : Ranked → Ranked → Bool
+beatsBy q p = ltb (q .end) (p .end) || (eqb (q .end) (p .end) && ltb (q .top) (p .top))
+
+abbrev pub betterBy : Choice → Choice → Choice
+betterBy a Nowhere = a
+betterBy Nowhere (Chosen q) = Chosen q
+betterBy (Chosen p) (Chosen q) = cond (beatsBy q p) (Chosen q) (Chosen p)
+
+abbrev pub merged : Tried → Tried → Tried
+merged s x = record { most = max (s .most) (x .most); best = betterBy (s .best) (x .best) }
+
+-- a spot of turn t, with its rank
+abbrev pub ranked : Spot → ℕ → ℕ → ℕ → Choice
+ranked (Found c y) t wide tall =
+    Chosen (record { at = record { turn = t; column = c; height = y }; end = c + wide; top = y + tall })
+ranked None t wide tall = Nowhere
+
+-- the spot's last column and top are numbers of 16 bits
+abbrev pub SpotFits : Spot → ℕ → ℕ → Type 0
+SpotFits (Found c y) wide tall = (c + wide ≤ 65535) × (y + tall ≤ 65535)
+SpotFits None wide tall = Unit {0}
+
+-- a choice is what the definition finds
+pub record Finds (R : ℕ) (o : List ℕ) (x : Option Position) (c : Choice) : Type 0 where
+  pub is : placeOf c ≡ x
+  pub ranks : Ranks R o c
+
+-- an outline that passes 7 and 8, its bounds, and a table laid flat
+pub record Ready (f l h o : List ℕ) (W R N left right foot head : ℕ) : Type 0 where
+  pub lent : Lent o
+  pub bounds : BoundsOf o left right foot head
+  pub least : 1 ≤ R
+  pub most : R ≤ 400
+  pub width : W ≤ 16000
+  pub columns : N ≤ 4096
+  pub count : ℕ
+  pub table : Laid f l h W N count
+
+-- turn t, with work of so many words
+pub record OneTurn (W R N : ℕ) (held : List (List Rows)) (o : List ℕ) (t words : ℕ) (s : Tried) : Type 0 where
+  pub most : s .most ≡ countRuns (pieceRuns o t R)
+  pub best : 3 * s .most ≤ words → Finds R o (firstFree W R N held o t) (s .best)
+
+-- the allowed turns below t
+pub record TurnsTo (W R N : ℕ) (held : List (List Rows)) (o : List ℕ) (mask t words : ℕ) (s : Tried) : Type 0 where
+  pub most : s .most ≡ mostRuns o mask R t
+  pub best : 3 * s .most ≤ words → Finds R o (bestBelow W R N held o mask t) (s .best)

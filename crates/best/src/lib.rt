@@ -1,0 +1,203 @@
+// The best position among the allowed turns.
+
+ghost use mathlib.Core.Path.{_≡_};
+ghost use Prim.Native.Nat.{_+_, _≤_, _<_};
+ghost use lib.ListN.{length};
+ghost use Rattle.defs.specs.Meaning.Outline.{KeepsOrder};
+ghost use Rattle.defs.specs.Meaning.Turn.{turned};
+ghost use Rattle.defs.specs.Meaning.Placing.{columnsFor};
+ghost use Rattle.defs.specs.Meaning.Question.{Question10};
+ghost use Rattle.tables.specs.Flat.{tableOf};
+ghost use Rattle.best.specs.Choice.{beatsBy, betterBy, merged, SpotFits, ranked, Ready, OneTurn, TurnsTo};
+use defs::Figures;
+use defs::Position;
+use outline::Bounds;
+use walk::Search;
+use walk::Spot;
+
+// A position, one more than its last column, and its top.
+pub struct Ranked {
+    pub at: Position,
+    pub end: usize,
+    pub top: u16,
+}
+
+pub enum Choice {
+    Chosen(Ranked),
+    Nowhere,
+}
+
+// The most runs of the turns tried, and the best position in them.
+pub struct Tried {
+    pub most: usize,
+    pub best: Choice,
+}
+
+// "w/R rounded up"
+pub fn columns_for(w: u16, r: u16) -> usize
+    requires { ⌜ 1 ≤ r ⌝ }
+    ensures { λ c. ⌜ c ≡ columnsFor w r ⌝ }
+{
+    (w as usize + (r as usize - 1)) / (r as usize)
+}
+
+// Whether q has a lesser last column than p, or the same and a lesser top.
+fn beats(q: Ranked, p: Ranked) -> bool
+    ensures { λ a. ⌜ a ≡ beatsBy q p ⌝ }
+{
+    if q.end == p.end {
+        return q.top < p.top;
+    }
+    q.end < p.end
+}
+
+// The better of two; a tie goes to the first.
+fn better(a: Choice, b: Choice) -> Choice
+    ensures { λ c. ⌜ c ≡ betterBy a b ⌝ }
+{
+    match b {
+        Choice::Nowhere => a,
+        Choice::Chosen(q) => match a {
+            Choice::Nowhere => Choice::Chosen(q),
+            Choice::Chosen(p) => {
+                if beats(q, p) {
+                    Choice::Chosen(q)
+                } else {
+                    Choice::Chosen(p)
+                }
+            }
+        },
+    }
+}
+
+fn merge(s: Tried, x: Tried) -> Tried
+    ensures { λ m. ⌜ m ≡ merged s x ⌝ }
+{
+    let a = s.best;
+    let b = x.best;
+    let c = better(a, b);
+    if s.most < x.most {
+        return Tried {
+            most: x.most,
+            best: c,
+        };
+    }
+    Tried {
+        most: s.most,
+        best: c,
+    }
+}
+
+// The rank of the spot of turn t.
+fn rank(s: Spot, t: u16, wide: usize, tall: u16) -> Choice
+    requires { ⌜ SpotFits s wide tall ⌝ }
+    ensures { λ c. ⌜ c ≡ ranked s t wide tall ⌝ }
+{
+    match s {
+        Spot::Found(c, y) => Choice::Chosen(Ranked {
+            at: Position {
+                turn: t,
+                column: c as u16,
+                height: y,
+            },
+            end: c + wide,
+            top: y + tall,
+        }),
+        Spot::None => Choice::Nowhere,
+    }
+}
+
+// The least free position in turn t, where the runs of the turn fit in the work buffer.
+fn try_turn(
+    g: Figures,
+    first: &[u16],
+    lows: &[u16],
+    highs: &[u16],
+    o: &[u16],
+    b: Bounds,
+    t: u16,
+    work: &mut [u16],
+) -> Tried
+    requires { ⌜ Ready (now first) (now lows) (now highs) (now o) (g .width) (g .resolution) (g .columns) (b .left) (b .right) (b .foot) (b .head) ⌝
+        ∗ ⌜ t ≤ 3 ⌝ ∗ ⌜ KeepsOrder (turned (now o) t) ⌝ }
+    ensures { λ s. ⌜ OneTurn (g .width) (g .resolution) (g .columns) (tableOf (now (first .entry)) (now (lows .entry)) (now (highs .entry)) (g .columns)) (now (o .entry)) t (length (now (work .entry))) s ⌝ }
+{
+    let e = outline::extent_of(o, b, t);
+    let k = cells::put_runs(o, b, t, g.resolution, e.w, work);
+    if work.len() / 3 < k {
+        return Tried {
+            most: k,
+            best: Choice::Nowhere,
+        };
+    }
+    let wide = columns_for(e.w, g.resolution);
+    let s = walk::walk_turn(
+        first,
+        lows,
+        highs,
+        work,
+        Search {
+            columns: g.columns as usize,
+            width: g.width,
+            runs: k,
+            wide: wide,
+            tall: e.h,
+        },
+    );
+    Tried {
+        most: k,
+        best: rank(s, t, wide, e.h),
+    }
+}
+
+// The turns tried so far, and turn t if the mask allows it.
+fn allowed_turn(
+    g: Figures,
+    first: &[u16],
+    lows: &[u16],
+    highs: &[u16],
+    o: &[u16],
+    b: Bounds,
+    mask: u16,
+    t: u16,
+    work: &mut [u16],
+    s: Tried,
+) -> Tried
+    requires { ⌜ Ready (now first) (now lows) (now highs) (now o) (g .width) (g .resolution) (g .columns) (b .left) (b .right) (b .foot) (b .head) ⌝
+        ∗ ⌜ t ≤ 3 ⌝ ∗ ⌜ Question10 (now o) mask ⌝
+        ∗ ⌜ TurnsTo (g .width) (g .resolution) (g .columns) (tableOf (now first) (now lows) (now highs) (g .columns)) (now o) mask t (length (now work)) s ⌝ }
+    ensures { λ r. ⌜ TurnsTo (g .width) (g .resolution) (g .columns) (tableOf (now (first .entry)) (now (lows .entry)) (now (highs .entry)) (g .columns)) (now (o .entry)) mask (t + 1) (length (now (work .entry))) r ⌝ }
+{
+    if checks::allows(mask, t) {
+        let x = try_turn(g, first, lows, highs, o, b, t, work);
+        return merge(s, x);
+    }
+    s
+}
+
+// The best position in the allowed turns.
+pub fn best_turn(
+    g: Figures,
+    first: &[u16],
+    lows: &[u16],
+    highs: &[u16],
+    o: &[u16],
+    b: Bounds,
+    mask: u16,
+    work: &mut [u16],
+) -> Tried
+    requires { ⌜ Ready (now first) (now lows) (now highs) (now o) (g .width) (g .resolution) (g .columns) (b .left) (b .right) (b .foot) (b .head) ⌝
+        ∗ ⌜ Question10 (now o) mask ⌝ }
+    ensures { λ r. ⌜ TurnsTo (g .width) (g .resolution) (g .columns) (tableOf (now (first .entry)) (now (lows .entry)) (now (highs .entry)) (g .columns)) (now (o .entry)) mask 4 (length (now (work .entry))) r ⌝ }
+{
+    let mut s = Tried {
+        most: 0,
+        best: Choice::Nowhere,
+    };
+    let mut t = 0;
+    while t < 4 {
+        s = allowed_turn(g, first, lows, highs, o, b, mask, t, work, s);
+        t += 1;
+    }
+    s
+}

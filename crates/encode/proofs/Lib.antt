@@ -1,0 +1,4 @@
+pub mod Storing
+pub mod Words
+pub mod Columns
+pub mod Strips

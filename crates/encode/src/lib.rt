@@ -1,0 +1,120 @@
+// A table of runs, written into a strip: records 1, 2, 3 by column then low, and the free records after them in rising order.
+
+ghost use mathlib.Core.Path.{_≡_};
+ghost use mathlib.Core.List.{[], _∷_};
+ghost use Prim.Native.Nat.{_+_, _*_, _-_, _≤_, _<_};
+ghost use lib.ListN.{length, getD};
+ghost use lib.Seq.{sets};
+ghost use Rattle.defs.specs.Computing.Words.{recordsOf, columnWords, runWords, freeWords, written};
+ghost use Rattle.tables.specs.Flat.{Flat, rowsFrom, tableOf};
+ghost use Rattle.encode.specs.Room.{Room};
+ghost use Rattle.encode.specs.Stored.{link, firstRecords, RunsFit, FreeFit};
+use defs::Figures;
+
+// The record of run i in a chain that ends before run `end`: record i + 1, or 0 where the chain has no run i.
+fn record_of(i: u16, end: u16) -> u16
+    ensures { λ r. ⌜ r ≡ link i end ⌝ }
+{
+    if i < end {
+        return i + 1;
+    }
+    0
+}
+
+// Four words from word `at` on: a record's column, low, high and next, or the figures at the start.
+fn put_four(strip: &mut [u16], at: usize, a: u16, b: u16, c: u16, d: u16)
+    requires { ⌜ at + 4 ≤ length (now strip) ⌝ }
+    ensures { λ _. ⌜ now (strip .exit) ≡ sets (now (strip .entry)) at (a ∷ b ∷ c ∷ d ∷ []) ⌝ }
+{
+    strip[at] = a;
+    strip[at + 1] = b;
+    strip[at + 2] = c;
+    strip[at + 3] = d;
+}
+
+// The first record of each of n columns.
+fn put_firsts(strip: &mut [u16], first: &[u16], n: usize)
+    requires { ⌜ (n < length (now first)) × (4 + n ≤ length (now strip)) ⌝ }
+    ensures { λ _. ⌜ now (strip .exit) ≡ sets (now (strip .entry)) 4 (firstRecords (now (first .entry)) n) ⌝ }
+{
+    let mut k = 0;
+    while k < n {
+        strip[limits::LEADING_WORDS + k] = record_of(first[k], first[k + 1]);
+        k += 1;
+    }
+}
+
+// The records of the runs `from` to end - 1, which are those of column k, from word `at` on.
+fn put_column(
+    strip: &mut [u16],
+    at: usize,
+    k: u16,
+    lows: &[u16],
+    highs: &[u16],
+    from: u16,
+    end: u16,
+)
+    requires { ⌜ RunsFit (now lows) (now highs) from end at (length (now strip)) ⌝ }
+    ensures { λ _. ⌜ now (strip .exit) ≡ sets (now (strip .entry)) at
+        (columnWords k (from + 1) (rowsFrom (now (lows .entry)) (now (highs .entry)) from (end - from))) ⌝ }
+{
+    let e = end as usize;
+    let mut i = from as usize;
+    let mut p = at;
+    while i < e {
+        let next = record_of((i + 1) as u16, end);
+        put_four(strip, p, k, lows[i], highs[i], next);
+        p += limits::RECORD_WORDS;
+        i += 1;
+    }
+}
+
+// The records of the runs of n columns.
+fn put_records(strip: &mut [u16], first: &[u16], lows: &[u16], highs: &[u16], n: usize)
+    requires { ⌜ Flat (now first) (now lows) (now highs) n (getD (now first) n 0) ⌝
+        ∗ ⌜ (n ≤ 4096) × (4 + n + 4 * getD (now first) n 0 ≤ length (now strip)) ⌝ }
+    ensures { λ _. ⌜ now (strip .exit) ≡ sets (now (strip .entry)) (4 + n)
+        (runWords 0 1 (tableOf (now (first .entry)) (now (lows .entry)) (now (highs .entry)) n)) ⌝ }
+{
+    let start = limits::LEADING_WORDS + n;
+    let mut k = 0;
+    while k < n {
+        let from = first[k];
+        let end = first[k + 1];
+        let at = start + limits::RECORD_WORDS * from as usize;
+        put_column(strip, at, k as u16, lows, highs, from, end);
+        k += 1;
+    }
+}
+
+// The free records t + 1 to q of a strip of n columns, from word `at` on.
+fn put_free(strip: &mut [u16], at: usize, n: u16, t: usize, q: usize)
+    requires { ⌜ FreeFit t q at (length (now strip)) ⌝ }
+    ensures { λ _. ⌜ now (strip .exit) ≡ sets (now (strip .entry)) at (freeWords n (t + 1) (q - t)) ⌝ }
+{
+    let last = q as u16;
+    let mut i = t;
+    let mut p = at;
+    while i < q {
+        let next = record_of((i + 1) as u16, last);
+        put_four(strip, p, n, 0, 0, next);
+        p += limits::RECORD_WORDS;
+        i += 1;
+    }
+}
+
+// The strip of these figures that holds the t runs of the table.
+pub fn encode(strip: &mut [u16], g: Figures, first: &[u16], lows: &[u16], highs: &[u16], t: usize)
+    requires { ⌜ Flat (now first) (now lows) (now highs) (g .columns) t ⌝ ∗ ⌜ Room (g .columns) t (length (now strip)) ⌝ }
+    ensures { λ _. ⌜ now (strip .exit) ≡ written (g .width) (g .resolution) (g .columns) (recordsOf (g .columns) (length (now (strip .entry))))
+        (tableOf (now (first .entry)) (now (lows .entry)) (now (highs .entry)) (g .columns)) ⌝ }
+{
+    let n = g.columns as usize;
+    let q = limits::records_of(g.columns, strip.len());
+    let free = record_of(t as u16, q as u16);
+    put_four(strip, 0, g.width, g.resolution, g.columns, free);
+    put_firsts(strip, first, n);
+    put_records(strip, first, lows, highs, n);
+    let at = limits::LEADING_WORDS + n + limits::RECORD_WORDS * t;
+    put_free(strip, at, g.columns, t, q);
+}

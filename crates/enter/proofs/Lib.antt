@@ -1,0 +1,5 @@
+pub mod Copying
+pub mod Adding
+pub mod Columns
+pub mod Building
+pub mod Whole

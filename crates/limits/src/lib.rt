@@ -1,0 +1,76 @@
+// Questions 3 and 4: the limits of width, resolution, columns and records, and the length of a strip.
+
+ghost use mathlib.Core.Path.{_≡_};
+ghost use Prim.Native.Nat.{_≤_};
+ghost use Rattle.defs.specs.Computing.Words.{resolutionb, limitsb, lengthb, recordsOf};
+
+pub const MOST_WIDTH: u16 = 16000;
+
+pub const MOST_COLUMNS: u16 = 4096;
+
+pub const MOST_RECORDS: usize = 16000;
+
+// The words of a strip: W, R, N, first free record; each column's first record; then the records, of column, low, high, next.
+pub const LEADING_WORDS: usize = 4;
+
+pub const RECORD_WORDS: usize = 4;
+
+pub const LOW: usize = 1;
+
+pub const HIGH: usize = 2;
+
+pub const NEXT: usize = 3;
+
+// Question 3 of R alone.
+pub fn resolution_fits(r: u16) -> bool
+    ensures { λ a. ⌜ a ≡ resolutionb r ⌝ }
+{
+    if 1 <= r {
+        return r <= numbers::MOST_RESOLUTION;
+    }
+    false
+}
+
+// Question 3.
+pub fn limits_fit(w: u16, r: u16, n: u16) -> bool
+    ensures { λ a. ⌜ a ≡ limitsb w r n ⌝ }
+{
+    if w < 1 {
+        return false;
+    }
+    if MOST_WIDTH < w {
+        return false;
+    }
+    if !resolution_fits(r) {
+        return false;
+    }
+    if n < 1 {
+        return false;
+    }
+    n <= MOST_COLUMNS
+}
+
+// Q of a strip of n columns and so many words.
+pub fn records_of(n: u16, words: usize) -> usize
+    ensures { λ q. ⌜ q ≡ recordsOf n words ⌝ }
+{
+    let front = LEADING_WORDS + n as usize;
+    if words < front {
+        return 0;
+    }
+    (words - front) / RECORD_WORDS
+}
+
+// Question 4: the length is 4 + N + 4Q for some Q of 1 to 16,000.
+pub fn length_fits(n: u16, words: usize) -> bool
+    ensures { λ a. ⌜ a ≡ lengthb n words ⌝ }
+{
+    let q = records_of(n, words);
+    if q < 1 {
+        return false;
+    }
+    if MOST_RECORDS < q {
+        return false;
+    }
+    words == LEADING_WORDS + n as usize + RECORD_WORDS * q
+}

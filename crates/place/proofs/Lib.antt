@@ -1,0 +1,4 @@
+pub mod Zeros
+pub mod Entries
+pub mod Answers
+pub mod Strip

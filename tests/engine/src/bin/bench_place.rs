@@ -1,0 +1,137 @@
+//! Times of whole lists of place calls, open included, beside those of a plain
+//! Rust program with the same walk on the same pieces, in one run, and how the time
+//! grows from the first quarter of the list to the last. The strip is lent to the
+//! engine at each call; the plain program keeps its own form of it.
+
+use engine::data;
+use engine::plain_place::Board;
+use reference::generate::outlines::is_sound;
+use reference::generate::Random;
+use reference::{Position, Refusal};
+use std::time::Instant;
+
+const WIDTH: u16 = 8_000;
+/// As many words as the program `lay` has.
+const WORK: usize = 9_000;
+
+type Answer = Result<Position, Refusal>;
+
+struct List {
+    outlines: Vec<Vec<u16>>,
+    mask: u16,
+    r: u16,
+    n: u16,
+    q: usize,
+}
+
+/// The answers of one run of a list, and its microseconds after each quarter.
+struct Laid {
+    answers: Vec<Answer>,
+    quarters: [f64; 4],
+}
+
+fn laid(list: &List, start: Instant, mut place: impl FnMut(&[u16]) -> Answer) -> Laid {
+    let mut answers = Vec::with_capacity(list.outlines.len());
+    let mut quarters = [0.0; 4];
+    let mut before = 0.0;
+    for (quarter, time) in quarters.iter_mut().enumerate() {
+        let to = (quarter + 1) * list.outlines.len() / 4;
+        for outline in &list.outlines[answers.len()..to] {
+            answers.push(place(outline));
+        }
+        let now = 1e6 * start.elapsed().as_secs_f64();
+        *time = now - before;
+        before = now;
+    }
+    Laid { answers, quarters }
+}
+
+fn by_engine(list: &List, strip: &mut [u16], work: &mut [u16]) -> Laid {
+    let start = Instant::now();
+    assert!(engine::open(WIDTH, list.r, list.n, strip).is_ok());
+    laid(list, start, |outline| {
+        engine::place(strip, outline, list.mask, work)
+    })
+}
+
+fn by_plain(list: &List) -> (Laid, Board) {
+    let start = Instant::now();
+    let mut board = Board::open(WIDTH, list.r, list.n, list.q);
+    let laid = laid(list, start, |outline| board.place(outline, list.mask, WORK));
+    (laid, board)
+}
+
+/// The rounds of the two take turns, so that what else the machine does falls on
+/// both; the least time of each quarter counts.
+fn row(name: &str, list: &List) {
+    let mut strip = vec![0; 4 + usize::from(list.n) + 4 * list.q];
+    let mut work = vec![0; WORK];
+    let (mut engine, mut plain) = ([f64::MAX; 4], [f64::MAX; 4]);
+    let mut placed = 0;
+    let start = Instant::now();
+    let mut rounds = 0;
+    while rounds < 5 || (rounds < 40 && start.elapsed().as_millis() < 1_500) {
+        let ours = by_engine(list, &mut strip, &mut work);
+        let (theirs, board) = by_plain(list);
+        assert_eq!(ours.answers, theirs.answers);
+        assert!(reference::strip_runs(&strip) == board.columns());
+        placed = ours.answers.iter().filter(|answer| answer.is_ok()).count();
+        for quarter in 0..4 {
+            engine[quarter] = engine[quarter].min(ours.quarters[quarter]);
+            plain[quarter] = plain[quarter].min(theirs.quarters[quarter]);
+        }
+        rounds += 1;
+    }
+    let (ours, theirs): (f64, f64) = (engine.iter().sum(), plain.iter().sum());
+    println!(
+        "{name:9} R {:3} mask {:2}  N {:4} Q {:5}  placed {placed:3} of {:3}  engine {:9.0} us  plain {:9.0} us  ratio {:.2}",
+        list.r,
+        list.mask,
+        list.n,
+        list.q,
+        list.outlines.len(),
+        ours,
+        theirs,
+        ours / theirs
+    );
+    let times = |quarters: [f64; 4]| quarters.map(|time| format!("{time:8.0}")).join(" ");
+    println!("    quarters  engine {}", times(engine));
+    println!("              plain  {}", times(plain));
+}
+
+/// Outlines that pass questions 7 to 11 with every mask, in any order.
+fn pieces(file: &str, times: u16, count: usize) -> Vec<Vec<u16>> {
+    let larger = |outline: Vec<u16>| -> Vec<u16> { outline.iter().map(|x| times * x).collect() };
+    let mut outlines: Vec<Vec<u16>> = data::outlines(file)
+        .into_iter()
+        .map(larger)
+        .filter(|outline| is_sound(outline, 15))
+        .collect();
+    Random::new(51).shuffle(&mut outlines);
+    assert!(outlines.len() >= count, "{}", outlines.len());
+    outlines.truncate(count);
+    outlines
+}
+
+fn main() {
+    // Countries four times as large, to be of the counties' size.
+    let lists = [
+        ("counties", pieces(data::NC_COUNTIES, 1, 50)),
+        ("counties", pieces(data::NC_COUNTIES, 1, 100)),
+        ("countries", pieces(data::NATURAL_EARTH, 4, 200)),
+    ];
+    for (name, outlines) in lists {
+        for (r, n, q) in [(100, 300, 4_000), (20, 1_500, 16_000)] {
+            for mask in [1, 15] {
+                let list = List {
+                    outlines: outlines.clone(),
+                    mask,
+                    r,
+                    n,
+                    q,
+                };
+                row(name, &list);
+            }
+        }
+    }
+}

@@ -1,0 +1,103 @@
+//! The public calls, as include/vikelodu.h declares them. Nothing checks these
+//! declarations against the engine, so they are few and plain.
+
+use reference::{Position, Refusal};
+
+mod exported {
+    extern "C" {
+        pub fn vikelodu_open(
+            width: u16,
+            resolution: u16,
+            columns: u16,
+            strip: *mut u16,
+            strip_words: usize,
+        ) -> u64;
+        pub fn vikelodu_place(
+            strip: *mut u16,
+            strip_words: usize,
+            outline: *const u16,
+            outline_words: usize,
+            mask: u16,
+            work: *mut u16,
+            work_words: usize,
+        ) -> u64;
+        pub fn vikelodu_cover(
+            outline: *const u16,
+            outline_words: usize,
+            turn: u16,
+            resolution: u16,
+            output: *mut u16,
+            output_words: usize,
+        ) -> u64;
+    }
+}
+
+/// The 16 bits of an answer that begin at this one.
+fn word(answer: u64, bit: u32) -> u16 {
+    (answer >> bit) as u16
+}
+
+/// A granted answer as it came, or the refusal in it. A refused answer has
+/// nothing but the number and the ordinal.
+fn granted(answer: u64) -> Result<u64, Refusal> {
+    let number = word(answer, 0);
+    if number == 0 {
+        return Ok(answer);
+    }
+    assert_eq!(answer >> 32, 0, "more than a refusal: {answer:#x}");
+    Err(Refusal {
+        number,
+        ordinal: word(answer, 16),
+    })
+}
+
+pub fn open(w: u16, r: u16, n: u16, strip: &mut [u16]) -> Result<(), Refusal> {
+    // Sound: the function asks nothing of its caller, and reads and writes only what the slice lends.
+    let answer = unsafe { exported::vikelodu_open(w, r, n, strip.as_mut_ptr(), strip.len()) };
+    let answer = granted(answer)?;
+    assert_eq!(answer, 0, "more than a grant: {answer:#x}");
+    Ok(())
+}
+
+pub fn place(
+    strip: &mut [u16],
+    outline: &[u16],
+    mask: u16,
+    work: &mut [u16],
+) -> Result<Position, Refusal> {
+    // Sound, as above. The slices share nothing: two are lent to be written, the third to be read.
+    let answer = unsafe {
+        exported::vikelodu_place(
+            strip.as_mut_ptr(),
+            strip.len(),
+            outline.as_ptr(),
+            outline.len(),
+            mask,
+            work.as_mut_ptr(),
+            work.len(),
+        )
+    };
+    let answer = granted(answer)?;
+    Ok(Position {
+        turn: word(answer, 16),
+        column: word(answer, 32),
+        height: word(answer, 48),
+    })
+}
+
+pub fn cover(outline: &[u16], turn: u16, r: u16, output: &mut [u16]) -> Result<u32, Refusal> {
+    // Sound, as above.
+    let answer = unsafe {
+        exported::vikelodu_cover(
+            outline.as_ptr(),
+            outline.len(),
+            turn,
+            r,
+            output.as_mut_ptr(),
+            output.len(),
+        )
+    };
+    let answer = granted(answer)?;
+    assert_eq!(word(answer, 16), 0, "more than the runs: {answer:#x}");
+    Ok((answer >> 32) as u32)
+}

@@ -1,0 +1,192 @@
+//! A plain, quick Rust program that lays pieces on a strip, to measure the engine
+//! against: the same walk over a vector of runs for each column, which it keeps
+//! from call to call. It is no reference for answers.
+
+use crate::plain::{ask_7_and_8, no, Turned};
+use reference::{Position, Refusal};
+
+/// A run of a column, rows low to high−1.
+type Stretch = (u16, u16);
+
+/// A strip that has passed questions 3 to 5.
+pub struct Board {
+    w: u16,
+    r: u16,
+    n: usize,
+    q: usize,
+    columns: Vec<Vec<Stretch>>,
+    /// The runs of all columns.
+    used: usize,
+}
+
+/// A piece in a turn.
+struct Piece {
+    turn: u16,
+    /// Columns wide.
+    wide: usize,
+    h: u16,
+    runs: Vec<[u16; 3]>,
+}
+
+impl Piece {
+    fn new(turned: &Turned, turn: u16, r: u16) -> Piece {
+        let (w, h) = turned.extent();
+        Piece {
+            turn,
+            wide: (w as usize).div_ceil(usize::from(r)),
+            h: h as u16,
+            runs: turned.runs(r),
+        }
+    }
+
+    /// Its runs where it stands at c, y: the column, and rows low to high−1.
+    fn moved(&self, c: usize, y: u16) -> impl Iterator<Item = (usize, u16, u16)> + '_ {
+        self.runs
+            .iter()
+            .map(move |&[column, low, high]| (c + usize::from(column), y + low, y + high))
+    }
+}
+
+/// The place of the lowest run of the column that ends above a row. Columns hold
+/// few runs: a search by halves was a quarter slower at R 100, a tenth quicker at
+/// R 20.
+fn above(column: &[Stretch], row: u16) -> usize {
+    column
+        .iter()
+        .position(|run| run.1 > row)
+        .unwrap_or(column.len())
+}
+
+impl Board {
+    pub fn open(w: u16, r: u16, n: u16, q: usize) -> Board {
+        Board {
+            w,
+            r,
+            n: usize::from(n),
+            q,
+            columns: vec![Vec::new(); usize::from(n)],
+            used: 0,
+        }
+    }
+
+    pub fn columns(&self) -> &[Vec<Stretch>] {
+        &self.columns
+    }
+
+    /// Questions 7 to 14, and the piece entered.
+    pub fn place(&mut self, outline: &[u16], mask: u16, work: usize) -> Result<Position, Refusal> {
+        let pieces = self.pieces(outline, mask)?;
+        let most = pieces.iter().map(|piece| piece.runs.len()).max();
+        if work < 3 * most.unwrap_or(0) {
+            return Err(no(12, 1));
+        }
+        let found = pieces
+            .iter()
+            .filter_map(|piece| self.least_free(piece).map(|spot| (piece, spot)));
+        let best = found.min_by_key(|(piece, (c, y))| (c + piece.wide, y + piece.h, piece.turn));
+        let Some((piece, (c, y))) = best else {
+            return Err(no(13, 1));
+        };
+        let used = self.used_after(piece, c, y);
+        if used > self.q {
+            return Err(no(14, 1));
+        }
+        self.enter(piece, c, y);
+        self.used = used;
+        Ok(Position {
+            turn: piece.turn,
+            column: c as u16,
+            height: y,
+        })
+    }
+
+    /// Questions 7 to 11, and the piece in each allowed turn.
+    fn pieces(&self, outline: &[u16], mask: u16) -> Result<Vec<Piece>, Refusal> {
+        ask_7_and_8(outline)?;
+        if !(1..=15).contains(&mask) {
+            return Err(no(9, 1));
+        }
+        let turns = (0..4).filter(|turn| mask >> turn & 1 == 1);
+        let turned: Vec<(u16, Turned)> = turns
+            .map(|turn| (turn, Turned::new(outline, turn)))
+            .collect();
+        // Turns 0 and 2 have the same edges upside down, and so have 1 and 3: one of each two is asked.
+        for sideways in [0, 1] {
+            let mut same = turned.iter().filter(|(turn, _)| turn % 2 == sideways);
+            if same.next().is_some_and(|(_, turned)| !turned.keeps_order()) {
+                return Err(no(10, 1));
+            }
+        }
+        let pieces: Vec<Piece> = turned
+            .iter()
+            .map(|(turn, turned)| Piece::new(turned, *turn, self.r))
+            .collect();
+        if pieces[0].runs.is_empty() {
+            return Err(no(11, 1));
+        }
+        Ok(pieces)
+    }
+
+    /// The least free (c, y) of the piece.
+    fn least_free(&self, piece: &Piece) -> Option<(usize, u16)> {
+        let last = self.n.checked_sub(piece.wide)?;
+        let top = self.w.checked_sub(piece.h)?;
+        (0..=last).find_map(|c| self.least_height(piece, c, top).map(|y| (c, y)))
+    }
+
+    /// From height 0, up by one jump after each clash.
+    fn least_height(&self, piece: &Piece, c: usize, top: u16) -> Option<u16> {
+        let mut y = 0;
+        while y <= top {
+            let Some(higher) = self.clash(piece, c, y) else {
+                return Some(y);
+            };
+            y = higher;
+        }
+        None
+    }
+
+    /// The first run of the piece that clashes, with the lowest occupied run that
+    /// it meets: that run's high less the piece run's low.
+    fn clash(&self, piece: &Piece, c: usize, y: u16) -> Option<u16> {
+        for (column, low, high) in piece.moved(c, y) {
+            let column = &self.columns[column];
+            if let Some(met) = column.get(above(column, low)) {
+                if met.0 < high {
+                    return Some(met.1 - (low - y));
+                }
+            }
+        }
+        None
+    }
+
+    /// The runs of the strip with the piece: two that touch become one.
+    fn used_after(&self, piece: &Piece, c: usize, y: u16) -> usize {
+        let mut touching = 0;
+        for (column, low, high) in piece.moved(c, y) {
+            let column = &self.columns[column];
+            let place = above(column, low);
+            touching += usize::from(place > 0 && column[place - 1].1 == low);
+            touching += usize::from(column.get(place).is_some_and(|run| run.0 == high));
+        }
+        self.used + piece.runs.len() - touching
+    }
+
+    fn enter(&mut self, piece: &Piece, c: usize, y: u16) {
+        for (column, low, high) in piece.moved(c, y) {
+            let column = &mut self.columns[column];
+            let place = above(column, low);
+            let joins_below = place > 0 && column[place - 1].1 == low;
+            let joins_above = column.get(place).is_some_and(|run| run.0 == high);
+            match (joins_below, joins_above) {
+                (false, false) => column.insert(place, (low, high)),
+                (true, false) => column[place - 1].1 = high,
+                (false, true) => column[place].0 = low,
+                (true, true) => {
+                    column[place - 1].1 = column[place].1;
+                    column.remove(place);
+                }
+            }
+        }
+    }
+}

@@ -1,0 +1,516 @@
+//! Place against the reference program: answer, every word of the strip, the work
+//! buffer and the outline, with each buffer directly before a page that cannot be
+//! read. The order of the records is the engine's choice, and it is compared too:
+//! 1, 2, 3 by column then low, the free ones after them, rising.
+
+use engine::data;
+use engine::guard::Room;
+use engine::plain_place::Board;
+use reference::generate::outlines::zigzag_of;
+use reference::generate::{
+    any_mask, change_words, damaged_strip, outline, random_runs, sound_mask, sound_outline,
+    sound_strip, strip_with, Damage, OutlineKind, Random, StripFigures,
+};
+use reference::{runs, strip_runs, Position, Refusal};
+
+/// The engine beside the reference program, on one call after another.
+struct Both {
+    strip: Room,
+    outline: Room,
+    work: Room,
+    /// How often each number came; 0 is granted.
+    numbers: [u32; 16],
+    turns: [u32; 4],
+}
+
+impl Both {
+    fn new() -> Both {
+        Both {
+            strip: Room::new(69_000),
+            outline: Room::new(300),
+            work: Room::new(1_500_000),
+            numbers: [0; 16],
+            turns: [0; 4],
+        }
+    }
+
+    /// One call, with a work buffer of so many words that are not zero.
+    fn place(
+        &mut self,
+        strip: &mut [u16],
+        outline: &[u16],
+        mask: u16,
+        work: usize,
+    ) -> Result<Position, Refusal> {
+        let case = || format!("{outline:?} mask {mask} work {work} on {:?}", shown(strip));
+        let other_words: Vec<u16> = (0..work).map(|place| place as u16 | 1).collect();
+        let mut after = strip.to_vec();
+        let answer = reference::place(&mut after, outline, mask, &mut other_words.clone());
+        let lent_strip = self.strip.lend(strip);
+        let lent_outline = self.outline.lend(outline);
+        let lent_work = self.work.lend(&other_words);
+        let ours = engine::place(lent_strip, lent_outline, mask, lent_work);
+        assert_eq!(ours, answer, "{}", case());
+        assert!(*lent_strip == *after, "strip: {}", case());
+        assert!(lent_work.iter().all(|&word| word == 0), "work: {}", case());
+        assert!(*lent_outline == *outline, "outline: {}", case());
+        let kept = self.strip.kept_before(strip.len())
+            && self.outline.kept_before(outline.len())
+            && self.work.kept_before(work);
+        assert!(kept, "before a buffer: {}", case());
+        self.count(answer);
+        strip.copy_from_slice(&after);
+        answer
+    }
+
+    fn count(&mut self, answer: Result<Position, Refusal>) {
+        match answer {
+            Ok(position) => {
+                self.numbers[0] += 1;
+                self.turns[usize::from(position.turn)] += 1;
+            }
+            Err(refusal) => self.numbers[usize::from(refusal.number)] += 1,
+        }
+    }
+
+    /// Each of these numbers came at least so often.
+    fn came(&self, least: u32, numbers: &[usize]) {
+        println!("numbers {:?}, turns {:?}", self.numbers, self.turns);
+        for &number in numbers {
+            let times = self.numbers[number];
+            assert!(times >= least, "{number} came {times} times");
+        }
+    }
+}
+
+/// What a message shows of a strip.
+fn shown(strip: &[u16]) -> &[u16] {
+    &strip[..strip.len().min(200)]
+}
+
+/// A strip that the engine opened.
+fn opened(figures: StripFigures) -> Vec<u16> {
+    let StripFigures { w, r, n, q } = figures;
+    let mut strip = vec![0xFFFF; 4 + usize::from(n) + 4 * q];
+    assert_eq!(engine::open(w, r, n, &mut strip), Ok(()));
+    strip
+}
+
+fn count_runs(strip: &[u16]) -> usize {
+    strip_runs(strip).iter().map(Vec::len).sum()
+}
+
+/// An outline with the number of runs that it has in each turn.
+struct Piece {
+    outline: Vec<u16>,
+    runs: [usize; 4],
+}
+
+impl Piece {
+    fn new(outline: Vec<u16>, r: u16) -> Piece {
+        let runs = [0, 1, 2, 3].map(|turn| runs(&outline, turn, r).len());
+        Piece { outline, runs }
+    }
+
+    /// The words that question 12 asks for.
+    fn words(&self, mask: u16) -> usize {
+        let allowed = (0..4).filter(|turn| mask >> turn & 1 == 1);
+        3 * allowed.map(|turn| self.runs[turn]).max().unwrap_or(0)
+    }
+}
+
+/// A small outline: most are sound with every mask, some with one, some not.
+fn small_outline(random: &mut Random, size: u16) -> Vec<u16> {
+    match random.index(8) {
+        0 | 1 => {
+            let kind = random.pick(&OutlineKind::ALL);
+            // At 16,000 units the reference program takes its time.
+            if kind == OutlineKind::AtLimit {
+                return sound_outline(random, 15, size);
+            }
+            outline(random, kind, size)
+        }
+        2 => {
+            let mask = sound_mask(random);
+            sound_outline(random, mask, size)
+        }
+        _ => sound_outline(random, 15, size),
+    }
+}
+
+/// One call of a list: a place in its pieces, a mask, and the work words.
+#[derive(Clone, Copy)]
+struct Call {
+    piece: usize,
+    mask: u16,
+    work: usize,
+}
+
+struct List {
+    figures: StripFigures,
+    pieces: Vec<Piece>,
+    calls: Vec<Call>,
+}
+
+/// A list of 1 to 40 calls with up to 8 outlines, some of which come often.
+fn small_list(random: &mut Random) -> List {
+    let figures = StripFigures {
+        w: random.word(1, 30),
+        r: random.word(1, 5),
+        n: random.word(1, 24),
+        q: random.between(1, 40) as usize,
+    };
+    let pieces: Vec<Piece> = (0..random.between(1, 8))
+        .map(|_| {
+            let size = random.word(2, 9);
+            Piece::new(small_outline(random, size), figures.r)
+        })
+        .collect();
+    let count = random.between(1, 40).min(random.between(1, 40));
+    let calls = (0..count)
+        .map(|_| {
+            let piece = random.index(pieces.len());
+            let mask = match random.index(2) {
+                0 => any_mask(random),
+                _ => sound_mask(random),
+            };
+            let words = pieces[piece].words(mask);
+            let work = match random.index(12) {
+                0 => words.saturating_sub(1),
+                1 => random.index(words + 1),
+                2 => words + random.index(8),
+                _ => words,
+            };
+            Call { piece, mask, work }
+        })
+        .collect();
+    List {
+        figures,
+        pieces,
+        calls,
+    }
+}
+
+/// Lays a list on a strip with so many records; the most runs it ever had.
+fn lay(both: &mut Both, list: &List, q: usize) -> usize {
+    let StripFigures { w, r, n, .. } = list.figures;
+    let mut strip = opened(StripFigures { w, r, n, q });
+    let mut plain = Board::open(w, r, n, q);
+    let mut most = 0;
+    for call in &list.calls {
+        let outline = &list.pieces[call.piece].outline;
+        let answer = both.place(&mut strip, outline, call.mask, call.work);
+        assert_eq!(plain.place(outline, call.mask, call.work), answer, "plain");
+        if answer.is_ok() {
+            most = most.max(count_runs(&strip));
+        }
+    }
+    assert!(plain.columns() == strip_runs(&strip), "plain");
+    most
+}
+
+/// Lists from a granted open, with the records of any number, plenty, just enough
+/// and one short.
+#[test]
+fn lists_on_small_strips() {
+    let mut both = Both::new();
+    let mut random = Random::new(41);
+    let (mut lists, mut exact) = (0, 0);
+    for round in 0..16_000 {
+        let list = small_list(&mut random);
+        if round % 4 != 0 {
+            lay(&mut both, &list, list.figures.q);
+            lists += 1;
+            continue;
+        }
+        let most = lay(&mut both, &list, 500);
+        lists += 1;
+        if most >= 2 {
+            let before = both.numbers[14];
+            lay(&mut both, &list, most);
+            assert_eq!(both.numbers[14], before, "just enough");
+            lay(&mut both, &list, most - 1);
+            assert!(both.numbers[14] > before, "one short");
+            lists += 2;
+            exact += 1;
+        }
+    }
+    println!("lists {lists}, with records just enough and one short {exact}");
+    assert!(lists >= 20_000 && exact >= 2_000);
+    both.came(2_000, &[0, 7, 8, 9, 10, 11, 12, 13, 14]);
+    assert_eq!(both.numbers[5], 0, "no call of a list answers 5");
+    assert!(both.turns.iter().all(|&times| times > 1_000));
+}
+
+/// Single calls on well-formed strips whose records are in any order, with runs
+/// that no outline could have made; with Q plenty, just enough and one short.
+#[test]
+fn strips_in_another_order() {
+    let mut both = Both::new();
+    let mut random = Random::new(42);
+    let (mut enough, mut short, mut fewer) = (0, 0, 0);
+    for _ in 0..12_000 {
+        let (w, r, n) = (random.word(1, 20), random.word(1, 4), random.word(1, 12));
+        let most = random.index(30);
+        let columns = random_runs(&mut random, w, n, most);
+        let before: usize = columns.iter().map(Vec::len).sum();
+        let size = random.word(2, 7);
+        let piece = Piece::new(small_outline(&mut random, size), r);
+        let mask = any_mask(&mut random);
+        let work = piece.words(mask);
+        let mut on = |q: usize, random: &mut Random| {
+            let mut strip = strip_with(random, StripFigures { w, r, n, q }, &columns);
+            let answer = both.place(&mut strip, &piece.outline, mask, work);
+            (answer, count_runs(&strip))
+        };
+        let (answer, after) = on(before + 100, &mut random);
+        if answer.is_err() {
+            continue;
+        }
+        fewer += u32::from(after < before);
+        let least = before.max(1);
+        assert_eq!(on(after.max(least), &mut random).0, answer);
+        enough += 1;
+        if after > least {
+            let refused = on(after - 1, &mut random).0;
+            assert_eq!(refused.map_err(|no| no.number), Err(14));
+            short += 1;
+        }
+    }
+    println!("enough {enough}, one short {short}, fewer runs than before {fewer}");
+    assert!(enough > 3_000 && short > 1_500 && fewer > 100);
+    both.came(100, &[0, 7, 8, 9, 10, 11, 13, 14]);
+}
+
+/// 5 comes before what else is wrong, with the work buffer zero all the same.
+#[test]
+fn damaged_strips() {
+    let mut both = Both::new();
+    let mut random = Random::new(43);
+    let mut changed = [0; 2];
+    for round in 0..250 {
+        for damage in Damage::ALL {
+            // Strips of 64,000 words are for few rounds.
+            if damage == Damage::TooManyRecords && round % 25 != 0 {
+                continue;
+            }
+            let mut strip = damaged_strip(&mut random, damage);
+            let (outline, mask) = (small_outline(&mut random, 6), any_mask(&mut random));
+            let work = random.index(60);
+            let answer = both.place(&mut strip, &outline, mask, work);
+            let ill_formed = Refusal {
+                number: 5,
+                ordinal: 0,
+            };
+            assert_eq!(answer, Err(ill_formed), "{damage:?}");
+        }
+        for _ in 0..20 {
+            let mut strip = sound_strip(&mut random);
+            change_words(&mut random, &mut strip);
+            let outline = small_outline(&mut random, 5);
+            let answer = both.place(&mut strip, &outline, 15, 100);
+            let is_5 = answer.is_err_and(|no| no.number == 5);
+            changed[usize::from(is_5)] += 1;
+        }
+    }
+    println!("changed: well formed, ill formed {changed:?}");
+    both.came(10_000, &[5]);
+    assert!(changed[0] > 300 && changed[1] > 3_000);
+}
+
+/// A list of public outlines, all of them sound, until so many are placed or
+/// refused.
+fn public_list(both: &mut Both, figures: StripFigures, outlines: &[Vec<u16>], masks: &[u16]) {
+    let mut random = Random::new(44);
+    let mut strip = opened(figures);
+    for outline in outlines {
+        let mask = random.pick(masks);
+        let words = Piece::new(outline.clone(), figures.r).words(mask);
+        let short = random.once_in(16);
+        let answer = both.place(&mut strip, outline, mask, words - usize::from(short));
+        assert_eq!(short, answer.is_err_and(|no| no.number == 12));
+    }
+}
+
+#[test]
+fn public_counties() {
+    let mut both = Both::new();
+    let mut random = Random::new(45);
+    let mut counties = data::outlines(data::NC_COUNTIES);
+    random.shuffle(&mut counties);
+    let coarse = StripFigures {
+        w: 8_000,
+        r: 100,
+        n: 80,
+        q: 1_000,
+    };
+    public_list(&mut both, coarse, &counties[..30], &[1, 2, 6, 15]);
+    // Not room enough for all.
+    let fine = StripFigures {
+        w: 4_000,
+        r: 20,
+        n: 120,
+        q: 400,
+    };
+    public_list(&mut both, fine, &counties[30..50], &[1, 4, 10]);
+    both.came(2, &[0, 12, 13, 14]);
+}
+
+#[test]
+fn public_countries() {
+    let mut both = Both::new();
+    let mut random = Random::new(46);
+    let mut countries = data::outlines(data::NATURAL_EARTH);
+    random.shuffle(&mut countries);
+    let figures = StripFigures {
+        w: 1_000,
+        r: 8,
+        n: 400,
+        q: 4_000,
+    };
+    public_list(&mut both, figures, &countries[..150], &[1, 3, 8, 15]);
+    both.came(3, &[0, 12]);
+}
+
+/// The data set Shapes2 as it is known: four of each shape, width 15.
+#[test]
+fn public_shapes() {
+    let mut both = Both::new();
+    let shapes = vec![data::outlines(data::SHAPES_2); 4].concat();
+    for (r, n) in [(1, 40), (2, 20), (5, 9)] {
+        let figures = StripFigures {
+            w: 15,
+            r,
+            n,
+            q: 300,
+        };
+        for masks in [&[1][..], &[5], &[15]] {
+            public_list(&mut both, figures, &shapes, masks);
+        }
+    }
+    both.came(5, &[0, 12]);
+}
+
+/// A comb put between the teeth of another: a strip with no record free has fewer
+/// runs after it. On the way they must not be more than the records.
+#[test]
+fn a_full_strip_that_a_piece_fills_up() {
+    let mut both = Both::new();
+    // Column 0 is the comb's back; its teeth are rows 1, 3, 5, 7 and 9 of columns 1 to 3.
+    let mut comb = vec![0, 0, 0, 11, 1, 11];
+    for tooth in (0..5).rev() {
+        let (low, high) = (2 * tooth + 1, 2 * tooth + 2);
+        comb.extend([1, high, 4, high, 4, low, 1, low]);
+    }
+    comb.extend([1, 0]);
+    let rows: Vec<(u16, u16)> = (0..6).map(|tooth| (2 * tooth, 2 * tooth + 1)).collect();
+    let columns = [vec![], rows.clone(), rows.clone(), rows];
+    for q in 18..22 {
+        let figures = StripFigures {
+            w: 11,
+            r: 1,
+            n: 4,
+            q,
+        };
+        let mut strip = strip_with(&mut Random::new(47), figures, &columns);
+        assert!(both.place(&mut strip, &comb, 1, 48).is_ok());
+        assert_eq!(strip_runs(&strip), vec![vec![(0, 11)]; 4]);
+    }
+    // On an empty strip it takes 16.
+    for (q, number) in [(16, None), (15, Some(14))] {
+        let figures = StripFigures {
+            w: 11,
+            r: 1,
+            n: 4,
+            q,
+        };
+        let answer = both.place(&mut opened(figures), &comb, 1, 48);
+        assert_eq!(answer.err().map(|no| no.number), number);
+    }
+}
+
+/// Strips of up to 16,000 runs in any order, with a piece of some hundred runs.
+#[test]
+fn large_strips() {
+    let mut both = Both::new();
+    let mut random = Random::new(48);
+    for (w, n, q) in [
+        (8_000, 1_000, 4_000),
+        (16_000, 4_096, 16_000),
+        (16_000, 4_096, 15_000),
+        (1, 4_096, 4_096),
+        (16_000, 1, 8_000),
+    ] {
+        for most in [0, q / 2, q] {
+            let columns = random_runs(&mut random, w, n, most);
+            let figures = StripFigures { w, r: 3, n, q };
+            let mut strip = strip_with(&mut random, figures, &columns);
+            for size in [2, 60, 400] {
+                let piece = Piece::new(sound_outline(&mut random, 15, size), figures.r);
+                let _ = both.place(&mut strip, &piece.outline, 15, piece.words(15));
+            }
+        }
+    }
+    both.came(5, &[0, 13]);
+}
+
+/// Positions at the far end and at the top of the largest strip.
+#[test]
+fn the_last_position() {
+    let mut both = Both::new();
+    let figures = StripFigures {
+        w: 16_000,
+        r: 400,
+        n: 4_096,
+        q: 16_000,
+    };
+    let unit = [0, 0, 1, 0, 1, 1, 0, 1];
+    let mut columns = vec![vec![(0, 16_000)]; 4_096];
+    columns[4_095] = vec![(0, 15_999)];
+    let mut strip = strip_with(&mut Random::new(49), figures, &columns);
+    let answer = both.place(&mut strip, &unit, 15, 3);
+    let last = Position {
+        turn: 0,
+        column: 4_095,
+        height: 15_999,
+    };
+    assert_eq!(answer, Ok(last));
+    let answer = both.place(&mut strip, &unit, 15, 3);
+    assert_eq!(answer.map_err(|no| no.number), Err(13));
+}
+
+/// Pieces as large as the strip, and as an outline can be.
+#[test]
+fn the_largest_pieces() {
+    let mut both = Both::new();
+    let square = [0, 0, 16_000, 0, 16_000, 16_000, 0, 16_000];
+    for (w, n, number) in [
+        (16_000, 40, None),
+        (15_999, 40, Some(13)),
+        (16_000, 39, Some(13)),
+    ] {
+        let figures = StripFigures {
+            w,
+            r: 400,
+            n,
+            q: 40,
+        };
+        let answer = both.place(&mut opened(figures), &square, 1, 120);
+        assert_eq!(answer.err().map(|no| no.number), number);
+    }
+    // A band that goes to and fro: 495,010 runs, more than 16 bits hold.
+    let band: Vec<u16> = zigzag_of(32, 500, 1, 16_000)
+        .iter()
+        .flat_map(|&(x, y)| [x as u16, y as u16])
+        .collect();
+    let figures = StripFigures {
+        w: 16_000,
+        r: 1,
+        n: 4_096,
+        q: 16_000,
+    };
+    for (work, number) in [(1_485_029, 12), (1_485_030, 13)] {
+        let answer = both.place(&mut opened(figures), &band, 1, work);
+        assert_eq!(answer.map_err(|no| no.number), Err(number));
+    }
+}

@@ -1,0 +1,130 @@
+//! The trial pieces of document 01 that open, place and cover can run, starred or
+//! not, with the numbers that the paper gives. "Q is 6 where none is given."
+
+use engine::{cover, open, place};
+use reference::{strip_runs, Position, Refusal};
+
+/// Square S, 4 by 4.
+const S: [u16; 8] = [0, 0, 4, 0, 4, 4, 0, 4];
+const T: [u16; 6] = [0, 0, 3, 0, 3, 2];
+const U: [u16; 6] = [0, 0, 3, 2, 0, 2];
+const SIX_BY_TWO: [u16; 8] = [0, 0, 6, 0, 6, 2, 0, 2];
+
+fn opened(w: u16, r: u16, n: u16, q: usize) -> Vec<u16> {
+    let mut strip = vec![0xFFFF; 4 + usize::from(n) + 4 * q];
+    assert_eq!(open(w, r, n, &mut strip), Ok(()));
+    strip
+}
+
+/// Turn, column and height, or the number of the refusal.
+fn placed(strip: &mut [u16], outline: &[u16], mask: u16) -> Result<(u16, u16, u16), u16> {
+    let before = strip.to_vec();
+    let mut work = [0xFFFF; 90];
+    let answer = place(strip, outline, mask, &mut work);
+    assert_eq!(work, [0; 90]);
+    match answer {
+        Ok(Position {
+            turn,
+            column,
+            height,
+        }) => Ok((turn, column, height)),
+        Err(Refusal { number, ordinal }) => {
+            assert_eq!(ordinal, 1);
+            assert!(*strip == *before);
+            Err(number)
+        }
+    }
+}
+
+/// The runs (column, low, high) in turn 0, or the number of the refusal.
+fn covered(outline: &[u16], r: u16) -> Result<Vec<[u16; 3]>, u16> {
+    let mut output = [0xFFFF; 90];
+    let runs = cover(outline, 0, r, &mut output).map_err(|refusal| refusal.number)?;
+    let (words, rest) = output.split_at(3 * runs as usize);
+    assert!(rest.iter().all(|&word| word == 0xFFFF));
+    Ok(words.as_chunks().0.to_vec())
+}
+
+/// "Three S, W 10, R 2, N 10: Q 3 refuses the third with 14, Q 4 places it." Where
+/// it is placed is the printed example's.
+#[test]
+fn three_squares() {
+    let mut strip = opened(10, 2, 10, 3);
+    assert_eq!(placed(&mut strip, &S, 1), Ok((0, 0, 0)));
+    assert_eq!(placed(&mut strip, &S, 1), Ok((0, 0, 4)));
+    assert_eq!(placed(&mut strip, &S, 1), Err(14));
+    let mut strip = opened(10, 2, 10, 4);
+    assert_eq!(placed(&mut strip, &S, 1), Ok((0, 0, 0)));
+    assert_eq!(placed(&mut strip, &S, 1), Ok((0, 0, 4)));
+    assert_eq!(placed(&mut strip, &S, 1), Ok((0, 2, 0)));
+    let [taken, half, none] = [&[(0, 8)][..], &[(0, 4)], &[]];
+    let columns = [taken, taken, half, half, none, none, none, none, none, none];
+    assert_eq!(strip_runs(&strip), columns);
+}
+
+/// "16,001 gives 8"
+#[test]
+fn a_coordinate_of_16_001() {
+    let mut strip = opened(10, 2, 10, 6);
+    for place in 0..S.len() {
+        let mut outline = S;
+        outline[place] = 16_001;
+        assert_eq!(placed(&mut strip, &outline, 1), Err(8));
+        assert_eq!(covered(&outline, 2), Err(8));
+    }
+}
+
+/// "65 vertices 7"
+#[test]
+fn sixty_five_vertices() {
+    // A rectangle with its vertices on the lower and the upper side.
+    let vertices = |lower: u16, upper: u16| -> Vec<u16> {
+        let there = (0..lower).flat_map(|x| [x, 0]);
+        let back = (0..upper).rev().flat_map(|x| [x, 1]);
+        there.chain(back).collect()
+    };
+    let mut strip = opened(40, 2, 40, 60);
+    assert_eq!(placed(&mut strip, &vertices(33, 32), 1), Err(7));
+    assert_eq!(covered(&vertices(33, 32), 2), Err(7));
+    assert_eq!(placed(&mut strip, &vertices(32, 32), 1), Ok((0, 0, 0)));
+}
+
+#[test]
+fn runs_of_s_the_triangle_t_and_u() {
+    assert_eq!(covered(&S, 2), Ok(vec![[0, 0, 4], [1, 0, 4]]));
+    let triangle = [0, 0, 4, 0, 0, 4];
+    assert_eq!(covered(&triangle, 2), Ok(vec![[0, 0, 4], [1, 0, 2]]));
+    assert_eq!(covered(&T, 1), Ok(vec![[0, 0, 1], [1, 0, 2], [2, 0, 2]]));
+    assert_eq!(covered(&U, 1), Ok(vec![[0, 0, 2], [1, 0, 2], [2, 1, 2]]));
+}
+
+/// "W 2, R 1, T then U, mask 1: N 6 gives U column 3; N 5 gives 13."
+#[test]
+fn t_then_u() {
+    for (n, answer) in [(6, Ok((0, 3, 0))), (5, Err(13))] {
+        let mut strip = opened(2, 1, n, 6);
+        assert_eq!(placed(&mut strip, &T, 1), Ok((0, 0, 0)));
+        assert_eq!(placed(&mut strip, &U, 1), answer);
+    }
+}
+
+/// "(0,0) (1,2) (1,0) (0,2): 10. (0,0) (2,1) (2,0) (0,1): mask 1 passes, mask 2
+/// gives 10. (0,0) (4,0) (2,0): 11."
+#[test]
+fn edges_that_cross_and_nothing_inside() {
+    let mut strip = opened(10, 1, 10, 6);
+    assert_eq!(placed(&mut strip, &[0, 0, 1, 2, 1, 0, 0, 2], 1), Err(10));
+    let bow_tie = [0, 0, 2, 1, 2, 0, 0, 1];
+    assert_eq!(placed(&mut strip, &bow_tie, 2), Err(10));
+    assert_eq!(placed(&mut strip, &bow_tie, 1), Ok((0, 0, 0)));
+    assert_eq!(placed(&mut strip, &[0, 0, 4, 0, 2, 0], 1), Err(11));
+}
+
+/// "6 by 2, mask 3, R 2, N 10: W 4 turn 0; W 6 turn 1."
+#[test]
+fn six_by_two() {
+    for (w, turn) in [(4, 0), (6, 1)] {
+        let mut strip = opened(w, 2, 10, 6);
+        assert_eq!(placed(&mut strip, &SIX_BY_TWO, 3), Ok((turn, 0, 0)));
+    }
+}
