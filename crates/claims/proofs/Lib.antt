@@ -6,3 +6,4 @@ pub mod Passing
 pub mod Apart
 pub mod Whole
 pub mod CoverCells
+pub mod SheetsBack

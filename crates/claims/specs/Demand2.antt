@@ -6,14 +6,17 @@ use mathlib.Core.List.{List}
 use Prim.Native.Nat.{ℕ, zero, suc, _+_, _*_, _≤_, _<_}
 use lib.ListN.{length, getD, take}
 use Rattle.defs.specs.declared.Covering.the-variants.{Runs}
+use Rattle.defs.specs.declared.Figures.{Figures}
 use Rattle.defs.specs.declared.Reading.{Reading}
 use Rattle.defs.specs.declared.Reading.the-variants.{Read}
+use Rattle.defs.specs.declared.Writing.{Writing}
 use Rattle.defs.specs.declared.Writing.the-variants.{Written}
+use Rattle.defs.specs.Meaning.Limits.{mostBytes}
 use Rattle.defs.specs.Meaning.Turn.{turned}
 use Rattle.defs.specs.Meaning.Cell.{Covered, Run}
 use Rattle.defs.specs.Meaning.Sheet.{Piece, ListHolds, SheetHolds, listWords, sheetW, sheetR, sheetN}
 use Rattle.defs.specs.Computing.Calls.{CoverStep}
-use Rattle.defs.specs.Computing.Sheets.{ReadStep, WriteStep}
+use Rattle.defs.specs.Computing.Sheets.{sizeOf, ReadStep, WriteStep}
 
 -- cell (i, j) lies in run m of the n runs written
 pub record InRun (out : List ℕ) (n i j : ℕ) : Type 0 where
@@ -53,3 +56,23 @@ pub record ReadsBack (W R N : ℕ) (ws sheet : List ℕ) : Type 0 where
 unfoldable pub Demand2-sheets : Type 0
 Demand2-sheets =
     (W R N n : ℕ) (ws out out' : List ℕ) → WriteStep W R N ws out (Written n) out' → ReadsBack W R N ws (take n out')
+
+-- And the other way round: what a granted read gave, written and read again, is the same. The sheet holds pieces, and read's output
+-- begins with their list. Take any words ws that begin with that list: the output itself, or its first words alone. A write of them, with
+-- the figures that read gave, is granted where the size is at most 65,536 bytes and the output has room, so of write's questions only 2
+-- and 15 can get "no". (Pieces of a sheet may share vertex records, and a written sheet has records for each, so it can be larger.) And
+-- the sheet that a granted write of them leaves, read into enough room, gives the same figures and the same list.
+pub record ReadsAgain (sheet out : List ℕ) (f : Figures) : Type 0 where
+  pub pieces : List Piece
+  pub sheet-holds : SheetHolds sheet pieces
+  pub list : ListHolds out pieces
+  pub granted :
+      (ws o o' : List ℕ) (a : Writing) → ListHolds ws pieces → WriteStep (f .width) (f .resolution) (f .columns) ws o a o' →
+      sizeOf pieces ≤ mostBytes → sizeOf pieces ≤ length o → a ≡ Written (sizeOf pieces)
+  pub again :
+      (ws o o' : List ℕ) (n : ℕ) → ListHolds ws pieces → WriteStep (f .width) (f .resolution) (f .columns) ws o (Written n) o' →
+      (a : Reading) (r r' : List ℕ) → ReadStep (take n o') r a r' → length (listWords pieces) ≤ length r →
+      (a ≡ Read f) × (take (length (listWords pieces)) r' ≡ take (length (listWords pieces)) out)
+
+unfoldable pub Demand2-again : Type 0
+Demand2-again = (sheet out out' : List ℕ) (f : Figures) → ReadStep sheet out (Read f) out' → ReadsAgain sheet out' f

@@ -19,9 +19,9 @@ pub extern "C" fn vikelodu_well_formed(strip: &[u16]) -> bool
 pub extern "C" fn vikelodu_decoded(strip: &[u16]) -> u32
     ensures { λ r. ⌜ r ≡ decodedAnswer (now (strip .entry)) ⌝ }
 {
-    let mut first = [0u16; 4097];
-    let mut lows = [0u16; 16000];
-    let mut highs = [0u16; 16000];
+    let mut first = [0u16; limits::FIRSTS];
+    let mut lows = [0u16; limits::MOST_RECORDS];
+    let mut highs = [0u16; limits::MOST_RECORDS];
     match decode::decode(strip, &mut first, &mut lows, &mut highs) {
         Decoded::Runs(t) => t as u32,
         Decoded::Ill => 4294967295,
@@ -33,15 +33,15 @@ pub extern "C" fn vikelodu_decoded(strip: &[u16]) -> u32
 pub extern "C" fn vikelodu_rewrite(strip: &mut [u16]) -> u64
     ensures { λ r. ⌜ r ≡ rewriteAnswer (now (strip .entry)) ⌝ ∗ ⌜ now (strip .exit) ≡ rewritten (now (strip .entry)) ⌝ }
 {
-    let mut first = [0u16; 4097];
-    let mut lows = [0u16; 16000];
-    let mut highs = [0u16; 16000];
+    let mut first = [0u16; limits::FIRSTS];
+    let mut lows = [0u16; limits::MOST_RECORDS];
+    let mut highs = [0u16; limits::MOST_RECORDS];
     match decode::decode(strip, &mut first, &mut lows, &mut highs) {
         Decoded::Runs(t) => {
             let g = Figures {
-                width: strip[0],
-                resolution: strip[1],
-                columns: strip[2],
+                width: strip[limits::WIDTH],
+                resolution: strip[limits::RESOLUTION],
+                columns: strip[limits::COLUMNS],
             };
             encode::encode(strip, g, &first, &lows, &highs, t);
             0

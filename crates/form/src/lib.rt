@@ -33,17 +33,6 @@ pub enum Mark {
     Wrong,
 }
 
-// The leading words, and a record's first.
-const WIDTH: usize = 0;
-
-const RESOLUTION: usize = 1;
-
-const COLUMNS: usize = 2;
-
-const FIRST_FREE: usize = 3;
-
-const COLUMN: usize = 0;
-
 pub fn word(s: &[u16], i: usize) -> usize
     requires { ⌜ i < length (now s) ⌝ }
     ensures { λ x. ⌜ x ≡ getD (now (s .entry)) i 0 ⌝ ∗ ⌜ x < 65536 ⌝ }
@@ -67,7 +56,7 @@ pub fn check_run(s: &[u16], g: Shape, c: usize, m: usize, r: usize) -> Mark
     if g.records < r {
         return Mark::Wrong;
     }
-    if word_of(s, g, r, COLUMN) != c {
+    if word_of(s, g, r, limits::COLUMN) != c {
         return Mark::Wrong;
     }
     let lo = word_of(s, g, r, limits::LOW);
@@ -112,7 +101,7 @@ fn is_free(s: &[u16], g: Shape, r: usize) -> bool
     requires { ⌜ Sized (now s) g ⌝ ∗ ⌜ r ≤ g .records ⌝ }
     ensures { λ a. ⌜ Decides a (IsFree (now (s .entry)) r) ⌝ }
 {
-    if word_of(s, g, r, COLUMN) != g.columns {
+    if word_of(s, g, r, limits::COLUMN) != g.columns {
         return false;
     }
     if word_of(s, g, r, limits::LOW) != 0 {
@@ -126,7 +115,7 @@ pub fn free_chain(s: &[u16], g: Shape) -> Chain
     requires { ⌜ Sized (now s) g ⌝ }
     ensures { λ a. ⌜ Chains (now (s .entry)) (g .records) (g .columns) a ⌝ }
 {
-    let mut at = word(s, FIRST_FREE);
+    let mut at = word(s, limits::FIRST_FREE);
     let mut k: usize = 0;
     while 0 < at {
         if g.records < at {
@@ -152,16 +141,16 @@ pub fn measure(s: &[u16]) -> Size
     if l < limits::LEADING_WORDS {
         return Size::Ill;
     }
-    let n = s[COLUMNS];
-    if !limits::limits_fit(s[WIDTH], s[RESOLUTION], n) {
+    let n = s[limits::COLUMNS];
+    if !limits::limits_fit(s[limits::WIDTH], s[limits::RESOLUTION], n) {
         return Size::Ill;
     }
     if !limits::length_fits(n, l) {
         return Size::Ill;
     }
     Size::Kept(Shape {
-        width: word(s, WIDTH),
-        columns: word(s, COLUMNS),
+        width: word(s, limits::WIDTH),
+        columns: word(s, limits::COLUMNS),
         records: limits::records_of(n, l),
     })
 }

@@ -10,10 +10,23 @@ pub const MOST_COLUMNS: u16 = 4096;
 
 pub const MOST_RECORDS: usize = 16000;
 
+// A table's places for the first runs of the columns: one for each of the most columns, and one more.
+pub const FIRSTS: usize = 4097;
+
 // The words of a strip: W, R, N, first free record; each column's first record; then the records, of column, low, high, next.
 pub const LEADING_WORDS: usize = 4;
 
+pub const WIDTH: usize = 0;
+
+pub const RESOLUTION: usize = 1;
+
+pub const COLUMNS: usize = 2;
+
+pub const FIRST_FREE: usize = 3;
+
 pub const RECORD_WORDS: usize = 4;
+
+pub const COLUMN: usize = 0;
 
 pub const LOW: usize = 1;
 

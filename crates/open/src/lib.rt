@@ -8,15 +8,12 @@ use defs::Figures;
 use defs::Opening;
 use defs::Refusal;
 
-// A table's places for the first runs: one for each of the most columns, and one more.
-const FIRSTS: usize = 4097;
-
 // The strip of these figures whose columns are empty. No old word of it is looked at.
 fn put_empty(strip: &mut [u16], g: Figures)
     requires { ⌜ Room (g .columns) 0 (length (now strip)) ⌝ }
     ensures { λ _. ⌜ now (strip .exit) ≡ openedStrip (g .width) (g .resolution) (g .columns) (length (now (strip .entry))) ⌝ }
 {
-    let first = [0u16; FIRSTS];
+    let first = [0u16; limits::FIRSTS];
     let none = [0u16; 0];
     encode::encode(strip, g, &first, &none, &none, 0);
 }

@@ -15,9 +15,6 @@ use defs::Refusal;
 use enter::Entering;
 use outline::Bounds;
 
-// A table's places for the first runs: one for each of the most columns, and one more.
-const FIRSTS: usize = 4097;
-
 // Runs of the next table, and of a column that is being entered.
 const NEXT_RUNS: usize = 24001;
 
@@ -147,9 +144,9 @@ fn place_decoded(
     ensures { λ a. ⌜ Answered (now (strip .entry)) (now (o .entry)) mask (length (now (work .entry))) a (now (strip .exit)) ⌝ }
 {
     let g = Figures {
-        width: strip[0],
-        resolution: strip[1],
-        columns: strip[2],
+        width: strip[limits::WIDTH],
+        resolution: strip[limits::RESOLUTION],
+        columns: strip[limits::COLUMNS],
     };
     let q = limits::records_of(g.columns, strip.len());
     let a = place_on(
@@ -179,10 +176,10 @@ fn place_decoded(
 fn place_strip(strip: &mut [u16], o: &[u16], mask: u16, work: &mut [u16]) -> Placing
     ensures { λ a. ⌜ Answered (now (strip .entry)) (now (o .entry)) mask (length (now (work .entry))) a (now (strip .exit)) ⌝ }
 {
-    let mut first = [0u16; FIRSTS];
+    let mut first = [0u16; limits::FIRSTS];
     let mut lows = [0u16; limits::MOST_RECORDS];
     let mut highs = [0u16; limits::MOST_RECORDS];
-    let mut first2 = [0u16; FIRSTS];
+    let mut first2 = [0u16; limits::FIRSTS];
     let mut lows2 = [0u16; NEXT_RUNS];
     let mut highs2 = [0u16; NEXT_RUNS];
     match decode::decode(strip, &mut first, &mut lows, &mut highs) {

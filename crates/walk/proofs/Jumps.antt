@@ -1,20 +1,21 @@
 -- What a clash says of the heights, and what its absence says: the run that is met keeps its rows, so no height is free until the piece's
--- run lies above it.
+-- run lies above it; a run that meets none stays free until it is raised to the next one.
 -- Assumes nothing.
-use mathlib.Core.Path.{_≡_, ap}
+use mathlib.Core.Path.{_≡_, ap, subst}
 use mathlib.Core.List.{List}
 use mathlib.Core.Logic.{⊎-elim}
 use Prim.Native.Nat.{ℕ, _+_, _-_, _*_, _≤_, _<_}
 use native.Mathlib.Omega.{arith}
+use native.Mathlib.Nat.{mul-le-mul-right}
 use native.Mathlib.Decide.{decLt}
 use borrow.Author.Count.{below-more}
-use lib.ListN.{getD, length}
+use lib.ListN.{getD}
 use Rattle.geom.proofs.Strip.{lt-or-le}
 use Rattle.runs.specs.Runs.{Passes}
 use Rattle.tables.specs.Flat.{Occupied, Laid}
 use Rattle.tables.specs.Piece.{runColumn, runLow, runHigh}
 use Rattle.tables.proofs.Flats.{firsts-most}
-use Rattle.walk.specs.Free.{Column, Frame, FreeTo, Lowest, FirstClash, Least, NoHeight}
+use Rattle.walk.specs.Free.{Column, Frame, FreeTo, Lowest, ClearTo, Lands, GoesOn, Least, NoHeight}
 
 -- the columns of a table laid flat
 column-of : {f l h : List ℕ} {W N n c : ℕ} → Laid f l h W N n → c < N → Column f l h c
@@ -29,34 +30,37 @@ column-of {c = c} laid u =
       runs = laid .runs c u;
     }
 
-module _ {f l h : List ℕ} {c lo hi i : ℕ} (k : Column f l h c) (p : Passes h (getD f c 0) (getD f (c + 1) 0) lo i) where
-  -- no run of the column meets the rows
-  pub nothing : (i < getD f (c + 1) 0 → hi ≤ getD l i 0) → (y : ℕ) → lo ≤ y → y < hi → ¬ Occupied f l h c y
-  nothing q y a b o = at (decLt (o .which) i) (decLt i (o .which))
+module _ {f l h : List ℕ} {c lo hi y i : ℕ} (k : Column f l h c) (p : Passes h (getD f c 0) (getD f (c + 1) 0) (y + lo) i) where
+  -- no run of the column meets the rows, up to a height z at which the first that could lies right above them
+  pub clear-to : {most z : ℕ} → y ≤ z → z ≤ most → (i < getD f (c + 1) 0 → z + hi ≤ getD l i 0) → ClearTo f l h c lo hi y most z
+  clear-to {z = z} low high q =
+      record { low = low; high = high; clear = λ u a b x v w o. at u x a b v w o (decLt (o .which) i) (decLt i (o .which)) }
     where
-      at : Dec (o .which < i) → Dec (i < o .which) → ⊥
-      at (yes x) z = omega (arith, p .within (o .which) x (o .from), o .high)
-      at (no x) (yes z) =
+      at : (u x : ℕ) → y ≤ u → u ≤ z → u + lo ≤ x → x < u + hi → (o : Occupied f l h c x) →
+          Dec (o .which < i) → Dec (i < o .which) → ⊥
+      at u x a b v w o (yes s) t = omega (arith, p .within (o .which) s (o .from), o .high)
+      at u x a b v w o (no s) (yes t) =
           omega (
             arith,
             q (omega (arith, o .among)),
             k .runs .full i (p .from) (omega (arith, o .among)),
-            k .runs .apart i (o .which) (p .from) z (o .among),
+            k .runs .apart i (o .which) (p .from) t (o .among),
             o .low,
           )
-      at (no x) (no z) =
+      at u x a b v w o (no s) (no t) =
           let e : o .which ≡ i = omega arith in
           omega (arith, q (omega (arith, o .among)), o .low, ap (λ (x : ℕ). getD l x 0) e)
 
-  pub lowest : i < getD f (c + 1) 0 → getD l i 0 < hi → Lowest f l h c lo hi i
-  lowest a b = record { from = p .from; to = a; over = p .found a; under = b; below = p .within }
+  pub lands : {z : ℕ} → i < getD f (c + 1) 0 → getD l i 0 < y + hi → z + lo ≡ getD h i 0 → Lands f l h c lo hi y z
+  lands a b e =
+      record { which = i; lowest = record { from = p .from; to = a; over = p .found a; under = b; below = p .within }; on = e }
 
-pub free-none : (f l h r : List ℕ) (c y : ℕ) → FreeTo f l h r c y 0
+free-none : (f l h r : List ℕ) (c y : ℕ) → FreeTo f l h r c y 0
 free-none f l h r c y = record { clear = λ m p. absurd (omega arith) }
 
 module _ {f l h r : List ℕ} {c k : ℕ} where
   -- one more run is free
-  pub free-more : {y : ℕ} → FreeTo f l h r c y k →
+  free-more : {y : ℕ} → FreeTo f l h r c y k →
       ((x : ℕ) → y + runLow r k ≤ x → x < y + runHigh r k → ¬ Occupied f l h (c + runColumn r k) x) → FreeTo f l h r c y (k + 1)
   free-more a b = record { clear = below-more _ _ (a .clear) (λ j u v o. b _ (omega arith) (omega arith) o) }
 
@@ -80,7 +84,7 @@ module _ {f l h r : List ℕ} {c k : ℕ} where
 pub record Below (f l h r : List ℕ) (p c y : ℕ) : Type 0 where
   pub none : (z : ℕ) → z < y → ¬ FreeTo f l h r c z p
 
-pub below-none : (f l h r : List ℕ) (p c : ℕ) → Below f l h r p c 0
+below-none : (f l h r : List ℕ) (p c : ℕ) → Below f l h r p c 0
 below-none f l h r p c = record { none = λ z a. absurd (omega arith) }
 
 -- the column in which run k of the piece lies
@@ -88,36 +92,87 @@ pub run-column : {f l h r : List ℕ} {N W p w t k : ℕ} → Frame f l h r N W 
     Column f l h (c + runColumn r k)
 run-column {k = k} fr c fits l = column-of (fr .table) (omega (arith, fr .piece .wide k l))
 
-module _ {f l h r : List ℕ} {N W p w t c y k i : ℕ} (fr : Frame f l h r N W p w t) (fits : c + w ≤ N) (m : FirstClash f l h r p c y k i) where
-  clash-column : Column f l h (c + runColumn r k)
-  clash-column = run-column fr c fits (m .among)
+-- no height below y is free, and the runs before k stay free from there up to `stay`
+pub record Going (f l h r : List ℕ) (p c top y k stay : ℕ) : Type 0 where
+  pub among : k ≤ p
+  pub low : y ≤ stay
+  pub high : stay ≤ top
+  pub free : (z : ℕ) → y ≤ z → z ≤ stay → FreeTo f l h r c z k
+  pub below : Below f l h r p c y
 
-  pub clash-here : (i < length h) × (3 * k + 2 < length r) × (runLow r k ≤ getD h i 0)
-  clash-here = omega (arith, clash-column .highs, m .lowest .to, m .lowest .over, fr .piece .long, m .among)
+pub going-start : (f l h r : List ℕ) (p c top : ℕ) → Going f l h r p c top 0 0 top
+going-start f l h r p c top =
+    record {
+      among = omega arith;
+      low = omega arith;
+      high = omega arith;
+      free = λ z a b. free-none f l h r c z;
+      below = below-none f l h r p c;
+    }
 
-  -- a jump goes up
-  pub higher : {y' : ℕ} → y' + runLow r k ≡ getD h i 0 → y < y'
-  higher e = omega (arith, m .lowest .over)
-
-  -- and skips no free height
-  pub jumped : {y' : ℕ} → y' + runLow r k ≡ getD h i 0 → Below f l h r p c y → Below f l h r p c y'
-  jumped e b =
+module _ {f l h r : List ℕ} {p c top y k stay : ℕ} (g : Going f l h r p c top y k stay) where
+  pub going-clear : {z : ℕ} → k < p → ClearTo f l h (c + runColumn r k) (runLow r k) (runHigh r k) y stay z →
+      Going f l h r p c top y (k + 1) z
+  going-clear a t =
       record {
-        none =
-            λ z a free.
-            ⊎-elim (λ u. b .none z u free)
-            (λ u.
-            taken z (m .among) (fr .piece .some k (m .among)) (clash-column .runs .full i (m .lowest .from) (m .lowest .to)) (m .lowest) u
-            (omega arith) free)
-            (lt-or-le z y);
+        among = omega arith;
+        low = t .low;
+        high = omega (arith, t .high, g .high);
+        free = λ u v w. free-more (g .free u v (omega (arith, t .high))) (t .clear u v w);
+        below = g .below;
       }
 
-pub least-here : {f l h r : List ℕ} {W p t c y : ℕ} → Below f l h r p c y → y + t ≤ W → FreeTo f l h r c y p →
-    Least f l h r W p t c y
-least-here b a e = record { fits = a; free = e; least = b .none }
+  pub going-end : {W t : ℕ} → ¬ (k < p) → top + t ≤ W → Least f l h r W p t c y
+  going-end a b =
+      let e : k ≡ p = omega (arith, g .among) in
+      record {
+        fits = omega (arith, g .low, g .high);
+        free = subst (FreeTo f l h r c y) e (g .free y (omega arith) (g .low));
+        least = g .below .none;
+      }
 
-pub none-here : {f l h r : List ℕ} {W p t c y : ℕ} → Below f l h r p c y → W < y + t → NoHeight f l h r W p t c
-none-here b a = record { none = λ z u e. b .none z (omega arith) e }
+module _ {f l h r : List ℕ} {N W p w t c top y k stay z : ℕ} (fr : Frame f l h r N W p w t) (fits : c + w ≤ N) (among : k < p)
+    (g : Going f l h r p c top y k stay) (m : Lands f l h (c + runColumn r k) (runLow r k) (runHigh r k) y z) where
+  -- a jump skips no free height
+  jumped : Below f l h r p c z
+  jumped =
+      record {
+        none =
+            λ u a free.
+            ⊎-elim (λ v. g .below .none u v free)
+            (λ v.
+            taken u among (fr .piece .some k among)
+            (run-column fr c fits among .runs .full (m .which) (m .lowest .from) (m .lowest .to)) (m .lowest) v (omega (arith, m .on)) free)
+            (lt-or-le u y);
+      }
+
+  pub going-stop : top < z → W ≤ top + t → NoHeight f l h r W p t c
+  going-stop a b = record { none = λ u v. jumped .none u (omega arith) }
+
+  pub going-jump : {k' stay' : ℕ} → GoesOn k z stay top k' stay' → Going f l h r p c top z k' stay'
+  going-jump {k'} o =
+      record {
+        among = omega (arith, o .few);
+        low = o .low;
+        high = o .high;
+        free =
+            λ u a b.
+            record {
+              clear =
+                  λ n v.
+                  g .free u (omega (arith, m .on, m .lowest .over)) (omega (arith, o .kept (omega arith))) .clear n (omega (arith, o .few));
+            };
+        below = jumped;
+      }
+
+  -- and goes up, so the tries come to an end
+  pub falls : {k' stay' : ℕ} → GoesOn k z stay top k' stay' → (top - z) * (p + 1) + (p - k') < (top - y) * (p + 1) + (p - k)
+  falls {k'} o =
+      let up : (top - z) + 1 ≤ top - y = omega (arith, m .on, m .lowest .over, o .low, o .high) in
+      go (top - z) (top - y) up
+    where
+      go : (a b : ℕ) → a + 1 ≤ b → a * (p + 1) + (p - k') < b * (p + 1) + (p - k)
+      go a b u = omega (arith, mul-le-mul-right (p + 1) u)
 
 -- no column before c has a free height
 pub record Left (f l h r : List ℕ) (W p t c : ℕ) : Type 0 where

@@ -1,15 +1,14 @@
 -- A table laid flat, a piece's runs, and the columns and heights at which the piece is free.
 -- Assumes nothing.
+use mathlib.Core.Path.{_≡_}
 use mathlib.Core.List.{List}
 use Prim.Native.Nat.{ℕ, _+_, _≤_, _<_}
 use lib.ListN.{length, getD}
 use Rattle.runs.specs.Runs.{Apart}
 use Rattle.tables.specs.Flat.{Occupied, Laid}
 use Rattle.tables.specs.Piece.{runColumn, runLow, runHigh, PieceRuns}
-use Rattle.walk.specs.declared.Held.{Held}
-use Rattle.walk.specs.declared.Held.the-variants.{At, Nothing}
-use Rattle.walk.specs.declared.Clash.{Clash}
-use Rattle.walk.specs.declared.Clash.the-variants.{Met, Clear}
+use Rattle.walk.specs.declared.Tried.{Tried}
+use Rattle.walk.specs.declared.Tried.the-variants.{Clear, Jump}
 use Rattle.walk.specs.declared.Height.{Height}
 use Rattle.walk.specs.declared.Height.the-variants.{Up, Full}
 use Rattle.walk.specs.declared.Spot.{Spot}
@@ -41,19 +40,29 @@ pub record Lowest (f l h : List ℕ) (c lo hi i : ℕ) : Type 0 where
   pub under : getD l i 0 < hi
   pub below : (m : ℕ) → m < i → getD f c 0 ≤ m → getD h m 0 ≤ lo
 
-abbrev pub Meets : (f l h : List ℕ) (c lo hi : ℕ) → Held → Type 0
-Meets f l h c lo hi (At i) = Lowest f l h c lo hi i
-Meets f l h c lo hi Nothing = (y : ℕ) → lo ≤ y → y < hi → ¬ Occupied f l h c y
+-- the rows lo to hi - 1, moved to any height from y to z, hold no occupied cell of column c; z is at most `most`
+pub record ClearTo (f l h : List ℕ) (c lo hi y most z : ℕ) : Type 0 where
+  pub low : y ≤ z
+  pub high : z ≤ most
+  pub clear : (u : ℕ) → y ≤ u → u ≤ z → (x : ℕ) → u + lo ≤ x → x < u + hi → ¬ Occupied f l h c x
 
--- run k of the piece at c, y is the first that meets an occupied run, and run i is the lowest that it meets
-pub record FirstClash (f l h r : List ℕ) (p c y k i : ℕ) : Type 0 where
-  pub among : k < p
-  pub free : FreeTo f l h r c y k
-  pub lowest : Lowest f l h (c + runColumn r k) (y + runLow r k) (y + runHigh r k) i
+-- moved to y they meet an occupied run, and moved to z they lie right on the lowest that they meet
+pub record Lands (f l h : List ℕ) (c lo hi y z : ℕ) : Type 0 where
+  pub which : ℕ
+  pub lowest : Lowest f l h c (y + lo) (y + hi) which
+  pub on : z + lo ≡ getD h which 0
 
-abbrev pub Clashes : (f l h r : List ℕ) (p c y : ℕ) → Clash → Type 0
-Clashes f l h r p c y (Met k i) = FirstClash f l h r p c y k i
-Clashes f l h r p c y Clear = FreeTo f l h r c y p
+abbrev pub Tries : (f l h : List ℕ) (c lo hi y most : ℕ) → Tried → Type 0
+Tries f l h c lo hi y most (Clear z) = ClearTo f l h c lo hi y most z
+Tries f l h c lo hi y most (Jump z) = Lands f l h c lo hi y z
+
+-- after a jump of run k to y the walk goes on with run m: the runs before m are of those before k, which stay free up to `stay`, and so
+-- they do up to `after`
+pub record GoesOn (k y stay top m after : ℕ) : Type 0 where
+  pub few : m ≤ k
+  pub low : y ≤ after
+  pub high : after ≤ top
+  pub kept : 0 < m → after ≤ stay
 
 -- the least free height of column c
 pub record Least (f l h r : List ℕ) (W p t c y : ℕ) : Type 0 where

@@ -1,21 +1,13 @@
 // The search for a piece's least free position in one turn: column by column, and in a column from height 0 on by jumps.
 
 ghost use mathlib.Core.Path.{_≡_};
-ghost use Prim.Native.Nat.{_+_, _*_, _≤_, _<_};
-ghost use lib.ListN.{length, getD};
-ghost use Rattle.tables.specs.Piece.{runLow};
-ghost use Rattle.walk.specs.Free.{Column, Meets, Frame, Clashes, Walked, Searched};
+ghost use Prim.Native.Nat.{_+_, _-_, _≤_, _<_, min};
+ghost use Rattle.walk.specs.Free.{Column, Frame, Tries, GoesOn, Walked, Searched};
 
-// Which run of a column is met.
-pub enum Held {
-    At(usize),
-    Nothing,
-}
-
-// Which run of the piece meets which run of the table.
-pub enum Clash {
-    Met(usize, usize),
-    Clear,
+// What one try of a run of the piece says: it is free up to a height, or the next height to try.
+enum Tried {
+    Clear(u16),
+    Jump(u16),
 }
 
 pub enum Height {
@@ -37,65 +29,69 @@ pub struct Search {
     pub tall: u16,
 }
 
-// The lowest occupied run of column c that meets the rows lo to hi - 1.
-pub fn meet(first: &[u16], lows: &[u16], highs: &[u16], c: usize, lo: u16, hi: u16) -> Held
-    requires { ⌜ Column (now first) (now lows) (now highs) c ⌝ }
-    ensures { λ r. ⌜ Meets (now (first .entry)) (now (lows .entry)) (now (highs .entry)) c lo hi r ⌝ }
-{
-    let a = first[c] as usize;
-    let e = first[c + 1] as usize;
-    let i = runs::pass(highs, a, e, lo);
-    if e <= i {
-        return Held::Nothing;
-    }
-    if lows[i] < hi {
-        Held::At(i)
-    } else {
-        Held::Nothing
-    }
+// The run to try after a jump, and the greatest height up to which the runs before it stay free.
+struct Next {
+    run: usize,
+    stay: u16,
 }
 
-// The first clash of the piece at c, y: by the order of its runs, with the lowest occupied run that the run meets.
-pub fn first_clash(
+// The height at which a run from lo on lies right on one that ends at high.
+fn onto(high: u16, lo: u16) -> u16
+    requires { ⌜ lo ≤ high ⌝ }
+    ensures { λ z. ⌜ z + lo ≡ high ⌝ }
+{
+    high - lo
+}
+
+// The greatest height up to `most` at which a run that ends at hi lies under one from low on.
+fn under(low: u16, hi: u16, most: u16) -> u16
+    requires { ⌜ hi ≤ low ⌝ }
+    ensures { λ z. ⌜ z ≡ min most (low - hi) ⌝ }
+{
+    if most < low - hi { most } else { low - hi }
+}
+
+// Tries the rows lo to hi - 1 of column c, moved to the height y: they stay free up to a height of at most `most`, or they jump onto the
+// lowest occupied run that they meet.
+fn try_run(
     first: &[u16],
     lows: &[u16],
     highs: &[u16],
-    runs: &[u16],
-    s: Search,
     c: usize,
+    lo: u16,
+    hi: u16,
     y: u16,
-) -> Clash
-    requires { ⌜ Frame (now first) (now lows) (now highs) (now runs) (s .columns) (s .width) (s .runs) (s .wide) (s .tall) ⌝
-        ∗ ⌜ (c + s .wide ≤ s .columns) × (y + s .tall ≤ s .width) ⌝ }
-    ensures { λ a. ⌜ Clashes (now (first .entry)) (now (lows .entry)) (now (highs .entry)) (now (runs .entry)) (s .runs) c y a ⌝ }
+    most: u16,
+) -> Tried
+    requires { ⌜ Column (now first) (now lows) (now highs) c ⌝ ∗ ⌜ (lo < hi) × (y + hi ≤ 65535) × (y ≤ most) ⌝ }
+    ensures { λ r. ⌜ Tries (now (first .entry)) (now (lows .entry)) (now (highs .entry)) c lo hi y most r ⌝ }
 {
-    let p = s.runs;
-    let mut k = 0;
-    while k < p {
-        let col = c + runs[3 * k] as usize;
-        let lo = y + runs[3 * k + 1];
-        let hi = y + runs[3 * k + 2];
-        match meet(first, lows, highs, col, lo, hi) {
-            Held::At(i) => {
-                return Clash::Met(k, i);
-            }
-            Held::Nothing => {
-                k += 1;
-            }
-        }
+    let a = first[c] as usize;
+    let e = first[c + 1] as usize;
+    let i = runs::pass(highs, a, e, y + lo);
+    if e <= i {
+        return Tried::Clear(most);
     }
-    Clash::Clear
+    if lows[i] < y + hi {
+        Tried::Jump(onto(highs[i], lo))
+    } else {
+        Tried::Clear(under(lows[i], hi, most))
+    }
 }
 
-// The height at which run k of the piece lies right on run i of the table.
-fn jump(highs: &[u16], runs: &[u16], k: usize, i: usize) -> u16
-    requires { ⌜ (i < length (now highs)) × (3 * k + 2 < length (now runs)) × (runLow (now runs) k ≤ getD (now highs) i 0) ⌝ }
-    ensures { λ y. ⌜ y + runLow (now (runs .entry)) k ≡ getD (now (highs .entry)) i 0 ⌝ }
+// How the walk goes on after a jump of run k to y: with run k, where the runs before it stay free up to y, else with run 0.
+fn go_on(k: usize, y: u16, stay: u16, top: u16) -> Next
+    requires { ⌜ (y ≤ top) × (stay ≤ top) ⌝ }
+    ensures { λ n. ⌜ GoesOn k y stay top (n .run) (n .stay) ⌝ }
 {
-    highs[i] - runs[3 * k + 1]
+    if stay < y {
+        Next { run: 0, stay: top }
+    } else {
+        Next { run: k, stay }
+    }
 }
 
-// The least free height in column c.
+// The least free height in column c. Runs that stay free up to a height are not tried again until a jump goes above it.
 pub fn walk_column(
     first: &[u16],
     lows: &[u16],
@@ -109,18 +105,31 @@ pub fn walk_column(
     ensures { λ a. ⌜ Walked (now (first .entry)) (now (lows .entry)) (now (highs .entry)) (now (runs .entry)) (s .width) (s .runs) (s .tall) c a ⌝ }
 {
     let top = s.width - s.tall;
-    let mut y = 0;
-    while y <= top {
-        match first_clash(first, lows, highs, runs, s, c, y) {
-            Clash::Met(k, i) => {
-                y = jump(highs, runs, k, i);
+    let p = s.runs;
+    let mut y: u16 = 0;
+    let mut k = 0;
+    let mut stay = top;
+    while k < p {
+        let col = c + runs[3 * k] as usize;
+        let lo = runs[3 * k + 1];
+        let hi = runs[3 * k + 2];
+        match try_run(first, lows, highs, col, lo, hi, y, stay) {
+            Tried::Clear(z) => {
+                stay = z;
+                k += 1;
             }
-            Clash::Clear => {
-                return Height::Up(y);
+            Tried::Jump(z) => {
+                if top < z {
+                    return Height::Full;
+                }
+                let n = go_on(k, z, stay, top);
+                y = z;
+                k = n.run;
+                stay = n.stay;
             }
         }
     }
-    Height::Full
+    Height::Up(y)
 }
 
 // The least free column, and the least free height in it.

@@ -1,49 +1,107 @@
--- `walk_column` meets its contract: no height below the one that is tried is free, and a jump goes up, so the heights come to an end.
+-- `walk_column` meets its contract: no height below the one that is tried is free, and the runs before the one that is tried stay free up to
+-- `stay`. Each try goes on by a run or up by a jump, so the tries come to an end.
 -- Assumes nothing.
 use borrow.Author.Needs.{needs}
 use native.Mathlib.Omega.{arith}
-use Prim.Native.Nat.{_+_, _-_}
-use Rattle.walk.proofs.Jumps.{Below, below-none, clash-here, higher, jumped, least-here, none-here}
+use Prim.Native.Nat.{_+_, _-_, _*_}
+use Rattle.walk.proofs.Jumps.{Going, going-start, going-clear, going-jump, going-stop, going-end, falls, run-column}
 use Rattle.walk.proofs.walk_column.Statement.{statement}
 use Rattle.walk.proofs.walk_column.Tie as tie
 
 abbrev Inv-loop : tie.InvT-loop
-Inv-loop first lows highs runs s c top y₀ y = Below first lows highs runs (s .runs) c y
+Inv-loop first lows highs runs c top p y₀ k₀ stay₀ y k stay = Going first lows highs runs p c top y k stay
 
 abbrev μ-loop : tie.MeasureT-loop
-μ-loop first lows highs runs s c top y₀ y = top + 1 - y
+μ-loop first lows highs runs c top p y₀ k₀ stay₀ y k stay = (top - y) * (p + 1) + (p - k)
 
 sub-top : tie.Need-sub-top Inv-loop μ-loop
 sub-top c = search needs
 
 loop-holds : tie.Need-loop-holds Inv-loop μ-loop
-loop-holds c = below-none _ _ _ _ _ _
+loop-holds c = going-start _ _ _ _ _ _ _
 
-first-clash-requires : tie.Need-first-clash-requires Inv-loop μ-loop
-first-clash-requires c κs = search needs
+mul-col : tie.Need-mul-col Inv-loop μ-loop
+mul-col c = search needs
 
-enum-known-k : tie.Need-enum-known-k Inv-loop μ-loop
-enum-known-k c = search needs
+mul-col-2 : tie.Need-mul-col-2 Inv-loop μ-loop
+mul-col-2 c = search needs
 
-jump-requires : tie.Need-jump-requires Inv-loop μ-loop
-jump-requires c κs = clash-here (c .before .before .before .before .before .before .before .before .before .before .before .pre .0) (omega arith) (rw (c .before .k .given .1) at (c .before .before .before .first-clash .ensures))
+shared-slice-read-col : tie.Need-shared-slice-read-col Inv-loop μ-loop
+shared-slice-read-col c = search needs
+
+cast-col : tie.Need-cast-col Inv-loop μ-loop
+cast-col c = omega (arith, c .shared-slice-known5 .given (3 * c .before .before .loop .k))
+
+add-col : tie.Need-add-col Inv-loop μ-loop
+add-col c = let pre = c .before .before .before .before .before .before .before .before .pre in omega (arith, pre .0 .piece .wide (c .before .before .loop .k) (omega arith), pre .1)
+
+mul-lo : tie.Need-mul-lo Inv-loop μ-loop
+mul-lo c = search needs
+
+add-lo : tie.Need-add-lo Inv-loop μ-loop
+add-lo c = search needs
+
+mul-lo-2 : tie.Need-mul-lo-2 Inv-loop μ-loop
+mul-lo-2 c = search needs
+
+shared-slice-read-lo : tie.Need-shared-slice-read-lo Inv-loop μ-loop
+shared-slice-read-lo c = search needs
+
+mul-hi : tie.Need-mul-hi Inv-loop μ-loop
+mul-hi c = search needs
+
+add-hi : tie.Need-add-hi Inv-loop μ-loop
+add-hi c = search needs
+
+mul-hi-2 : tie.Need-mul-hi-2 Inv-loop μ-loop
+mul-hi-2 c = search needs
+
+shared-slice-read-hi : tie.Need-shared-slice-read-hi Inv-loop μ-loop
+shared-slice-read-hi c = search needs
+
+try-run-requires : tie.Need-try-run-requires Inv-loop μ-loop
+try-run-requires c κs =
+    let pre = c .before .before .before .before .before .before .before .before .before .before .pre in
+    let k = c .before .before .before .before .loop .k in
+    let g = c .before .before .before .before .loop .inv in
+    (run-column (pre .0) _ (pre .1 .0) (omega arith), (pre .0 .piece .some k (omega arith), omega (arith, pre .0 .piece .tall k (omega arith), g .low, g .high), g .low))
+
+enum-known-z : tie.Need-enum-known-z Inv-loop μ-loop
+enum-known-z c = search needs
+
+add-k : tie.Need-add-k Inv-loop μ-loop
+add-k c = search needs
 
 loop-less : tie.Need-loop-less Inv-loop μ-loop
-loop-less c =
-    omega (arith, higher (c .before .before .before .before .before .before .before .before .before .before .before .before .pre .0) (omega arith) (rw (c .before .before .k .given .1) at (c .before .before .before .before .first-clash .ensures)) (c .jump .ensures))
+loop-less c = omega arith
 
 loop-again : tie.Need-loop-again Inv-loop μ-loop
 loop-again c =
-    jumped (c .before .before .before .before .before .before .before .before .before .before .before .before .pre .0) (omega arith) (rw (c .before .before .k .given .1) at (c .before .before .before .before .first-clash .ensures)) (c .jump .ensures) (c .before .before .before .before .before .before .loop .inv)
+    going-clear (c .before .before .before .before .before .before .before .before .loop .inv) (omega arith) (rw (c .before .z .given .1) at (c .before .before .before .try-run .ensures))
 
-enum-told : tie.Need-enum-told Inv-loop μ-loop
-enum-told c = search needs
+enum-known-z-2 : tie.Need-enum-known-z-2 Inv-loop μ-loop
+enum-known-z-2 c = search needs
 
 returns : tie.Need-returns Inv-loop μ-loop
-returns c = least-here (c .before .before .before .before .loop .inv) (omega arith) (rw (c .enum-told .given .1) at (c .before .before .first-clash .ensures))
+returns c =
+    let pre = c .before .before .before .before .before .before .before .before .before .before .before .before .before .before .before .pre in
+    going-stop (pre .0) (pre .1 .0) (omega arith) (c .before .before .before .before .before .before .before .before .before .loop .inv) (rw (c .before .before .z2 .given .1) at (c .before .before .before .before .try-run .ensures)) (omega arith) (omega arith)
+
+go-on-requires : tie.Need-go-on-requires Inv-loop μ-loop
+go-on-requires c κs = omega (arith, c .before .before .before .before .before .before .before .before .before .loop .inv .high)
+
+loop-less-2 : tie.Need-loop-less-2 Inv-loop μ-loop
+loop-less-2 c =
+    let pre = c .before .before .before .before .before .before .before .before .before .before .before .before .before .before .before .before .pre in
+    falls (pre .0) (pre .1 .0) (omega arith) (c .before .before .before .before .before .before .before .before .before .before .loop .inv) (rw (c .before .before .before .z2 .given .1) at (c .before .before .before .before .before .try-run .ensures)) (c .go-on .ensures)
+
+loop-again-2 : tie.Need-loop-again-2 Inv-loop μ-loop
+loop-again-2 c =
+    let pre = c .before .before .before .before .before .before .before .before .before .before .before .before .before .before .before .before .pre in
+    going-jump (pre .0) (pre .1 .0) (omega arith) (c .before .before .before .before .before .before .before .before .before .before .loop .inv) (rw (c .before .before .before .z2 .given .1) at (c .before .before .before .before .before .try-run .ensures)) (c .go-on .ensures)
 
 returns-2 : tie.Need-returns-2 Inv-loop μ-loop
-returns-2 c = none-here (c .before .loop .inv) (omega arith)
+returns-2 c = going-end (c .before .loop .inv) (omega arith) (omega arith)
 
 pub walk-column-spec : {M : Type 1} → statement M
 walk-column-spec =
@@ -53,11 +111,27 @@ walk-column-spec =
     μ-loop
     sub-top
     loop-holds
-    first-clash-requires
-    enum-known-k
-    jump-requires
+    mul-col
+    mul-col-2
+    shared-slice-read-col
+    cast-col
+    add-col
+    mul-lo
+    add-lo
+    mul-lo-2
+    shared-slice-read-lo
+    mul-hi
+    add-hi
+    mul-hi-2
+    shared-slice-read-hi
+    try-run-requires
+    enum-known-z
+    add-k
     loop-less
     loop-again
-    enum-told
+    enum-known-z-2
     returns
+    go-on-requires
+    loop-less-2
+    loop-again-2
     returns-2)

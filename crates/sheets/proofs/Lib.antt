@@ -1,0 +1,9 @@
+pub mod Chains
+pub mod Bytes
+pub mod PiecesBack
+pub mod SheetBack
+pub mod Asking
+pub mod Passing
+pub mod ListBack
+pub mod Answers
+pub mod Trip
