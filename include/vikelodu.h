@@ -2,19 +2,23 @@
  * Vikelodu: outlines laid on a strip of board.
  *
  * A strip is opened once and then takes one piece after another. Each piece goes to the free position that ends in the least
- * column, then lowest, then in the least turn. Every call answers one number of 64 bits and says in it what became of the call:
- * granted, or refused with the number of the question that got "no".
+ * column, then lowest, then in the least turn. A job sheet carries the figures of a strip and a cut list of pieces as bytes; a
+ * list is read from it and written to it, and a whole job is laid from it in one call. Every call answers one number of 64 bits
+ * and says in it what became of the call: granted, or refused with the number of the question that got "no".
  *
  * Words and buffers
  *
- * A word is a uint16_t, and a buffer is a pointer to its first word and its number of words.
+ * A word is a uint16_t, and a buffer is a pointer to its first word and its number of words. A job sheet is a buffer of bytes: a
+ * pointer to its first byte, which needs no alignment, and its number of bytes.
  * - A buffer belongs to the caller. The library reads and writes nothing outside the buffers of the call and keeps nothing
  *   between calls, so calls on different buffers may run at the same time.
- * - A pointer is aligned to 2 bytes and is not NULL, also where the buffer has no words.
+ * - A pointer to words is aligned to 2 bytes. No pointer is NULL, also where the buffer has no words or bytes.
  * - The buffers of one call must not overlap; nothing checks that.
- * - A call keeps its tables on the stack: some 220 KB in vikelodu_place, 40 KB in vikelodu_cover, 10 KB in vikelodu_open.
- * - As bytes, a buffer has two to a word, low byte first, and an odd last byte is no part of it and stays. A machine that stores
- *   numbers low byte first can so lend a byte buffer as it is, if it is aligned to 2 bytes: the words are its bytes divided by 2.
+ * - A call keeps its tables on the stack: some 250 KB in vikelodu_lay, 220 KB in vikelodu_place, 40 KB in vikelodu_cover,
+ *   vikelodu_read and vikelodu_write, 10 KB in vikelodu_open.
+ * - As bytes, a buffer of words has two to a word, low byte first, and an odd last byte is no part of it and stays. A machine
+ *   that stores numbers low byte first can so lend a byte buffer as it is, if it is aligned to 2 bytes: the words are its bytes
+ *   divided by 2.
  *
  * Lengths
  *
@@ -23,8 +27,10 @@
  *
  * Refusals
  *
- * The questions of a call are asked in rising order, and the first "no" is the answer. A refused call changes no word of the
- * strip and of the output; the work buffer is zero after every call, granted or refused.
+ * The questions of a call are asked in rising order, those of a piece (7 to 11) piece by piece, and the first "no" is the answer;
+ * only vikelodu_write asks for the sheet's size (2) after its pieces. A refused call changes no word of the strip and no word or
+ * byte of the output; the work buffer is zero after every call, granted or refused. What is lent as const is never changed.
+ * In vikelodu_lay 12 to 14 refuse one piece and not the job: they are in the output and never in the answer.
  */
 #ifndef VIKELODU_H
 #define VIKELODU_H
@@ -36,9 +42,14 @@
 extern "C" {
 #endif
 
-/* The number in a refused answer. Numbers that are not here belong to job sheets. */
+/* The number in a refused answer. */
 enum vikelodu_number {
     VIKELODU_GRANTED = 0,
+    /* The sheet has fewer than 16 bytes, or does not begin with the bytes 4E 4A 01 00 (hexadecimal). */
+    VIKELODU_NO_SHEET = 1,
+    /* The sheet's length is not 16 + 6 V + 6 P, or it is above 65,536; in vikelodu_write the list's sheet would be longer than
+       that. */
+    VIKELODU_SHEET_LENGTH = 2,
     /* The width is not 1 to 16,000, the resolution not 1 to 400, or the columns not 1 to 4,096. */
     VIKELODU_LIMITS = 3,
     /* The strip has not 4 + columns + 4 * records words for any number of records from 1 to 16,000. */
@@ -46,7 +57,10 @@ enum vikelodu_number {
     /* The strip is not well formed: it was not opened, it has another length than it was opened with, or its words were
        changed so that they are no strip any more. */
     VIKELODU_ILL_FORMED = 5,
-    /* The outline has not 3 to 64 vertices: an even number of words from 6 to 128. */
+    /* The sheet's piece chain leaves 1 to P or does not end within 200 pieces; the list has no count word, or one above 200. */
+    VIKELODU_PIECES = 6,
+    /* The outline has not 3 to 64 vertices: an even number of words from 6 to 128. On a sheet: the vertex chain leaves 1 to V or
+       does not end after 3 to 64. In a list: the vertex count is not 3 to 64, or the list ends before the piece does. */
     VIKELODU_VERTICES = 7,
     /* A coordinate of the outline is above 16,000. */
     VIKELODU_COORDINATE = 8,
@@ -61,11 +75,27 @@ enum vikelodu_number {
     /* There is no free position in any allowed turn. */
     VIKELODU_NO_POSITION = 13,
     /* With the piece at its position the strip would have more runs than records. */
-    VIKELODU_RECORDS = 14
+    VIKELODU_RECORDS = 14,
+    /* The output has not as many words as the list of vikelodu_read or the pieces of vikelodu_lay need, or bytes as the sheet of
+       vikelodu_write. */
+    VIKELODU_OUTPUT = 15
 };
 
 /* The words of a strip. A record holds one run; what the pieces need depends on their form and on how their runs join. */
 #define VIKELODU_STRIP_WORDS(columns, records) (4 + (size_t)(columns) + 4 * (size_t)(records))
+
+/* The bytes of the sheet that vikelodu_write makes of a list with so many vertices and pieces in all; of the longest sheet. */
+#define VIKELODU_SHEET_BYTES(vertices, pieces) (16 + 6 * ((size_t)(vertices) + (size_t)(pieces)))
+#define VIKELODU_MOST_SHEET_BYTES 65536
+
+/* The words of a list with so many vertices and pieces in all; of the longest list, which has 200 pieces of 64 vertices. */
+#define VIKELODU_LIST_WORDS(vertices, pieces) (1 + 2 * ((size_t)(vertices) + (size_t)(pieces)))
+#define VIKELODU_MOST_LIST_WORDS 26001
+
+/* The words of vikelodu_lay's output for so many pieces; for the most pieces, which are 200. */
+#define VIKELODU_ENTRY_WORDS 4
+#define VIKELODU_LAY_WORDS(pieces) (VIKELODU_ENTRY_WORDS * (size_t)(pieces))
+#define VIKELODU_MOST_LAY_WORDS 800
 
 /*
  * Makes a strip with nothing on it.
@@ -118,10 +148,81 @@ uint64_t vikelodu_place(uint16_t *strip, size_t strip_words, const uint16_t *out
 uint64_t vikelodu_cover(const uint16_t *outline, size_t outline_words, uint16_t turn, uint16_t resolution, uint16_t *output,
                         size_t output_words);
 
+/*
+ * Reads a job sheet: width, resolution and columns in the answer, and its cut list as words.
+ *
+ *   sheet    any number of bytes, a sheet as below or not; they are not changed
+ *   output   at least the words of the list, as below; what they hold is not looked at, and words after the list stay.
+ *            VIKELODU_MOST_LIST_WORDS are always enough
+ *
+ * A sheet is numbers of 16 bits, low byte first, after the bytes 4E 4A 01 00 (hexadecimal):
+ *
+ *   from byte 4    width, resolution, columns, the number of the first piece record, V, P
+ *   from byte 16   V vertex records: x, y, next
+ *   after them     P piece records: the number of the first vertex record, mask, next
+ *
+ * A record has 6 bytes. Vertex records and piece records are each numbered from 1 and chained by next, 0 after the last. Where
+ * the first piece is 0 there are no pieces. Pieces may share vertex records, and records in no chain are not looked at.
+ *
+ * A list is the number of pieces, 0 to 200, and then for each piece, in the order of the chain: the number of its vertices, its
+ * mask, and its outline as words x, y, x, y and so on. Outline and mask are as vikelodu_place takes them.
+ *
+ * Refused with 1, 2, 3, 6 or 15, ordinal 0, or with 7 to 11 and the ordinal of the piece in the chain, from 1 on. Granted, the
+ * answer has the width, the resolution and the columns, each in the limits of vikelodu_open.
+ */
+uint64_t vikelodu_read(const uint8_t *sheet, size_t sheet_bytes, uint16_t *output, size_t output_words);
+
+/*
+ * Writes a cut list as a job sheet. What is written reads back as that list.
+ *
+ *   width, resolution   in units, 1 to 16,000 and 1 to 400
+ *   columns             1 to 4,096
+ *   list                a list as in vikelodu_read; words after its last piece are not looked at, and nothing is changed
+ *   output              at least the bytes of the sheet; what they hold is not looked at, and bytes after the sheet stay.
+ *                       VIKELODU_MOST_SHEET_BYTES are always enough
+ *
+ * The sheet has VIKELODU_SHEET_BYTES(vertices, pieces) bytes. Its records are numbered 1, 2, 3 in the order of the list, each
+ * piece with vertex records of its own. So a list that was read from a sheet with shared records may get 2.
+ *
+ * Refused with 3 or 6, ordinal 0; with 7 to 11 and the ordinal of the piece in the list, from 1 on; then with 2 or 15, ordinal 0.
+ * Granted, the answer has the size of the sheet in bytes.
+ */
+uint64_t vikelodu_write(uint16_t width, uint16_t resolution, uint16_t columns, const uint16_t *list, size_t list_words,
+                        uint8_t *output, size_t output_bytes);
+
+/*
+ * Lays a job: opens the strip with the sheet's width, resolution and columns, and places the pieces of the sheet on it in the
+ * order of their chain, going on after a piece that is refused.
+ *
+ *   sheet    any number of bytes, a sheet as in vikelodu_read or not; they are not changed
+ *   strip    VIKELODU_STRIP_WORDS(columns, records) words, with the columns that the sheet gives and some 1 to 16,000 records;
+ *            what they hold is not looked at
+ *   output   at least VIKELODU_LAY_WORDS(pieces) words; what they hold is not looked at, and words after the last piece's stay.
+ *            VIKELODU_MOST_LAY_WORDS are always enough
+ *   work     as in vikelodu_place, of any number of words, 0 too: a piece for which it is too short is refused with 12
+ *
+ * Refused with 1, 2, 3, 4 or 6, ordinal 0; with 7 to 11 and the ordinal of the piece in the chain, from 1 on; then with 15,
+ * ordinal 0. A refused job lays nothing, also where one piece alone is at fault: the strip is not opened, it and the output keep
+ * their words, and all words of the work buffer are 0. The columns of a sheet are in its bytes 8 and 9, and vikelodu_read answers
+ * them.
+ *
+ * Granted, the answer has the number of pieces placed and the used columns: one more than the last column of the piece that ends
+ * farthest to the right, 0 if none is placed. The output has four words for each piece, in the order of the chain:
+ *
+ *   a piece that is placed    0, its turn, its column, its height, as vikelodu_place answers them
+ *   a piece that is refused   12, 13 or 14, and three times 0
+ *
+ * The strip is well formed and has the runs that vikelodu_open and then vikelodu_place with each of the pieces would have made;
+ * vikelodu_place can lay more pieces on it. All words of the work buffer are 0.
+ */
+uint64_t vikelodu_lay(const uint8_t *sheet, size_t sheet_bytes, uint16_t *strip, size_t strip_words, uint16_t *output,
+                      size_t output_words, uint16_t *work, size_t work_words);
+
 /* What an answer says. The number is 0 where the call is granted. */
 static inline uint16_t vikelodu_number(uint64_t answer) { return (uint16_t)answer; }
 
-/* Of a refused call: the piece's ordinal, 1 where the outline is at fault or does not fit, else 0. */
+/* Of a refused call: the ordinal of the piece that is at fault or does not fit, else 0. It is the piece's place in the sheet's
+   chain or in the list, and 1 where one outline is lent. */
 static inline uint16_t vikelodu_ordinal(uint64_t answer) { return (uint16_t)(answer >> 16); }
 
 /* Of a granted vikelodu_place. */
@@ -131,6 +232,18 @@ static inline uint16_t vikelodu_height(uint64_t answer) { return (uint16_t)(answ
 
 /* Of a granted vikelodu_cover. */
 static inline uint32_t vikelodu_runs(uint64_t answer) { return (uint32_t)(answer >> 32); }
+
+/* Of a granted vikelodu_read. */
+static inline uint16_t vikelodu_width(uint64_t answer) { return (uint16_t)(answer >> 16); }
+static inline uint16_t vikelodu_resolution(uint64_t answer) { return (uint16_t)(answer >> 32); }
+static inline uint16_t vikelodu_columns(uint64_t answer) { return (uint16_t)(answer >> 48); }
+
+/* Of a granted vikelodu_write: the bytes of the sheet. */
+static inline uint32_t vikelodu_size(uint64_t answer) { return (uint32_t)(answer >> 32); }
+
+/* Of a granted vikelodu_lay: the pieces placed, and the used columns. */
+static inline uint16_t vikelodu_placed(uint64_t answer) { return (uint16_t)(answer >> 16); }
+static inline uint16_t vikelodu_used(uint64_t answer) { return (uint16_t)(answer >> 32); }
 
 #ifdef __cplusplus
 }

@@ -314,6 +314,364 @@ static void test_bytes(void) {
     free(outline);
 }
 
+/* ------------------------------------------------------------------- sheets */
+
+/* Bytes with a byte before them and a byte after them that no call may write. */
+struct bytes {
+    uint8_t *at;
+    size_t count;
+};
+
+enum { FENCE_BYTE = 0xBE };
+
+static struct bytes make_bytes(size_t count) {
+    uint8_t *all = malloc(count + 2);
+    if (all == NULL) {
+        printf("no memory\n");
+        exit(1);
+    }
+    memset(all, 0xA7, count + 2);
+    all[0] = all[count + 1] = FENCE_BYTE;
+    return (struct bytes){all + 1, count};
+}
+
+static struct bytes copy_bytes(const uint8_t *of, size_t count) {
+    struct bytes made = make_bytes(count);
+    memcpy(made.at, of, count);
+    return made;
+}
+
+static void expect_fences_of_bytes(const char *what, struct bytes of) {
+    expect(what, of.at[-1], FENCE_BYTE);
+    expect(what, of.at[of.count], FENCE_BYTE);
+}
+
+static void expect_bytes(const char *what, struct bytes got, const uint8_t *wanted) {
+    if (memcmp(got.at, wanted, got.count) != 0) {
+        printf("%s: bytes differ\n", what);
+        different = 1;
+    }
+}
+
+static void drop_bytes(struct bytes of) { free(of.at - 1); }
+
+/* W 300, R 2, N 10; a triangle and a square as vikelodu_write numbers their records. */
+static const uint8_t two_pieces[] = {
+    0x4E, 0x4A, 1, 0, 0x2C, 1, 2, 0, 10, 0, 1, 0, 7, 0, 2, 0,       /* front */
+    0,    0,    0, 0, 2,    0,                                      /* vertex 1: 0, 0 */
+    0x2C, 1,    0, 0, 3,    0,                                      /* vertex 2: 300, 0 */
+    0x2C, 1,    2, 0, 0,    0,                                      /* vertex 3: 300, 2 */
+    0,    0,    0, 0, 5,    0, 4, 0, 0,  0, 6, 0, 4, 0, 4, 0, 7, 0, /* vertices 4 to 6 */
+    0,    0,    4, 0, 0,    0,                                      /* vertex 7: 0, 4 */
+    1,    0,    5, 0, 2,    0,                                      /* piece 1, mask 5 */
+    4,    0,    1, 0, 0,    0,                                      /* piece 2, mask 1 */
+};
+static const uint16_t two_pieces_list[] = {2, 3, 5, 0, 0, 300, 0, 300, 2, 4, 1, 0, 0, 4, 0, 4, 4, 0, 4};
+
+/* The granted answer of the sheet above. */
+static const uint64_t two_pieces_read = (uint64_t)300 << 16 | (uint64_t)2 << 32 | (uint64_t)10 << 48;
+
+static uint64_t written(uint64_t size) { return size << 32; }
+
+/* Read into an output of so many words: the answer, the list, and every word after it or of a refused call as before. */
+static void read_sheet(const char *what, const uint8_t *sheet, size_t sheet_bytes, size_t words, uint64_t wanted,
+                       const uint16_t *list, size_t list_words) {
+    struct bytes lent = copy_bytes(sheet, sheet_bytes);
+    struct buffer output = make(words), after = copy(output);
+    expect(what, vikelodu_read(lent.at, lent.count, output.words, output.count), wanted);
+    if (list_words > 0) {
+        memcpy(after.words, list, 2 * list_words);
+    }
+    expect_same(what, output, after);
+    expect_bytes(what, lent, sheet);
+    expect_fences("around the output", output);
+    expect_fences_of_bytes("around the sheet", lent);
+    drop(output);
+    drop(after);
+    drop_bytes(lent);
+}
+
+#define READ_REFUSED(what, sheet, words, number, ordinal) \
+    read_sheet(what, sheet, sizeof(sheet), words, refused(number, ordinal), NULL, 0)
+
+/* Write to an output of so many bytes: the answer, the sheet, and every byte after it or of a refused call as before. */
+static void write_list(const char *what, uint16_t width, const uint16_t *list, size_t list_words, size_t bytes, uint64_t wanted,
+                       const uint8_t *sheet, size_t sheet_bytes) {
+    struct buffer lent = make(list_words), before = make(list_words);
+    struct bytes output = make_bytes(bytes), after = make_bytes(bytes);
+    memcpy(lent.words, list, 2 * list_words);
+    memcpy(before.words, list, 2 * list_words);
+    expect(what, vikelodu_write(width, 2, 10, lent.words, lent.count, output.at, output.count), wanted);
+    if (sheet_bytes > 0) {
+        memcpy(after.at, sheet, sheet_bytes);
+    }
+    expect_bytes(what, output, after.at);
+    expect_same(what, lent, before);
+    expect_fences_of_bytes("around the output", output);
+    expect_fences("around the list", lent);
+    drop(lent);
+    drop(before);
+    drop_bytes(output);
+    drop_bytes(after);
+}
+
+#define WRITE_REFUSED(what, list, bytes, number, ordinal) \
+    write_list(what, 300, list, WORDS(list), bytes, refused(number, ordinal), NULL, 0)
+
+static void test_read(void) {
+    static const size_t lists[] = {19, 20, 100, VIKELODU_MOST_LIST_WORDS};
+    static const uint8_t empty[] = {0x4E, 0x4A, 1, 0, 0x80, 0x3E, 0x90, 1, 0, 0x10, 0, 0, 0, 0, 0, 0};
+    static const uint16_t no_pieces[] = {0};
+    uint64_t greatest = (uint64_t)16000 << 16 | (uint64_t)400 << 32 | (uint64_t)4096 << 48;
+    for (size_t i = 0; i < WORDS(lists); i++) {
+        read_sheet("two pieces", two_pieces, sizeof two_pieces, lists[i], two_pieces_read, two_pieces_list, 19);
+    }
+    read_sheet("no pieces", empty, sizeof empty, 1, greatest, no_pieces, 1);
+    READ_REFUSED("an output short by one", two_pieces, 18, VIKELODU_OUTPUT, 0);
+    READ_REFUSED("no output", two_pieces, 0, VIKELODU_OUTPUT, 0);
+    read_sheet("no bytes", two_pieces, 0, 19, refused(VIKELODU_NO_SHEET, 0), NULL, 0);
+    read_sheet("15 bytes", two_pieces, 15, 19, refused(VIKELODU_NO_SHEET, 0), NULL, 0);
+    read_sheet("16 bytes", two_pieces, 16, 19, refused(VIKELODU_SHEET_LENGTH, 0), NULL, 0);
+    read_sheet("cut off", two_pieces, sizeof two_pieces - 1, 19, refused(VIKELODU_SHEET_LENGTH, 0), NULL, 0);
+}
+
+/* The sheet of two pieces with one byte changed. */
+static void changed(const char *what, size_t place, uint8_t byte, uint64_t number, uint64_t ordinal) {
+    uint8_t sheet[sizeof two_pieces];
+    memcpy(sheet, two_pieces, sizeof sheet);
+    sheet[place] = byte;
+    READ_REFUSED(what, sheet, 100, number, ordinal);
+}
+
+static void test_refused_sheets(void) {
+    enum { VERTEX = 16, PIECE = VERTEX + 6 * 7 };
+    changed("another first byte", 0, 0x4F, VIKELODU_NO_SHEET, 0);
+    changed("another fourth byte", 3, 1, VIKELODU_NO_SHEET, 0);
+    changed("another V", 12, 8, VIKELODU_SHEET_LENGTH, 0);
+    changed("resolution 0", 6, 0, VIKELODU_LIMITS, 0);
+    changed("width 65,324", 5, 0xFF, VIKELODU_LIMITS, 0);
+    changed("first piece past P", 10, 3, VIKELODU_PIECES, 0);
+    changed("a piece after itself", PIECE + 4, 1, VIKELODU_PIECES, 0);
+    changed("two vertices", VERTEX + 10, 0, VIKELODU_VERTICES, 1);
+    changed("a vertex after itself", VERTEX + 6 * 6 + 4, 7, VIKELODU_VERTICES, 2);
+    changed("a vertex past V", VERTEX + 6 * 6 + 4, 8, VIKELODU_VERTICES, 2);
+    changed("x above 16,000", VERTEX + 6 * 5 + 1, 0x3F, VIKELODU_COORDINATE, 2);
+    changed("mask 0", PIECE + 2, 0, VIKELODU_TURN, 1);
+    changed("mask 16", PIECE + 8, 16, VIKELODU_TURN, 2);
+    changed("a flat outline", VERTEX + 6 * 2 + 2, 0, VIKELODU_NO_CELL, 1);
+}
+
+static void test_write(void) {
+    static const uint16_t longer[] = {2, 3, 5, 0, 0, 300, 0, 300, 2, 4, 1, 0, 0, 4, 0, 4, 4, 0, 4, 9, 9};
+    uint64_t size = sizeof two_pieces;
+    expect("size", size, VIKELODU_SHEET_BYTES(7, 2));
+    expect("words", WORDS(two_pieces_list), VIKELODU_LIST_WORDS(7, 2));
+    write_list("two pieces", 300, two_pieces_list, 19, size, written(size), two_pieces, size);
+    write_list("two pieces", 300, two_pieces_list, 19, size + 1, written(size), two_pieces, size);
+    write_list("words after them", 300, longer, 21, size + 90, written(size), two_pieces, size);
+    WRITE_REFUSED("an output short by one", two_pieces_list, size - 1, VIKELODU_OUTPUT, 0);
+    WRITE_REFUSED("no output", two_pieces_list, 0, VIKELODU_OUTPUT, 0);
+    write_list("width 0", 0, two_pieces_list, 19, size, refused(VIKELODU_LIMITS, 0), NULL, 0);
+    write_list("no words", 300, two_pieces_list, 0, size, refused(VIKELODU_PIECES, 0), NULL, 0);
+    write_list("cut off", 300, two_pieces_list, 18, size, refused(VIKELODU_VERTICES, 2), NULL, 0);
+}
+
+static void test_refused_lists(void) {
+    static const uint16_t pieces_201[] = {201};
+    static const uint16_t two_vertices[] = {1, 2, 1, 0, 0, 4, 4};
+    static const uint16_t far[] = {1, 3, 1, 0, 0, 16001, 0, 0, 4};
+    static const uint16_t mask_0[] = {1, 3, 0, 0, 0, 4, 0, 0, 4};
+    static const uint16_t mask_16[] = {1, 3, 16, 0, 0, 4, 0, 0, 4};
+    static const uint16_t crossed[] = {2, 3, 1, 0, 0, 4, 0, 0, 4, 4, 1, 0, 0, 1, 2, 1, 0, 0, 2};
+    static const uint16_t flat[] = {1, 3, 1, 0, 0, 4, 0, 2, 0};
+    WRITE_REFUSED("201 pieces", pieces_201, 90, VIKELODU_PIECES, 0);
+    WRITE_REFUSED("two vertices", two_vertices, 90, VIKELODU_VERTICES, 1);
+    WRITE_REFUSED("16,001", far, 90, VIKELODU_COORDINATE, 1);
+    WRITE_REFUSED("mask 0", mask_0, 90, VIKELODU_TURN, 1);
+    WRITE_REFUSED("mask 16", mask_16, 90, VIKELODU_TURN, 1);
+    WRITE_REFUSED("edges that cross", crossed, 90, VIKELODU_CROSSING, 2);
+    WRITE_REFUSED("a flat outline", flat, 90, VIKELODU_NO_CELL, 1);
+}
+
+/* A list of 200 squares, whose first vertex is said oftener so that each has so many. */
+static struct buffer squares(uint16_t vertices) {
+    struct buffer list = make(VIKELODU_LIST_WORDS(200 * vertices, 200));
+    uint16_t *at = list.words;
+    *at++ = 200;
+    for (int piece = 0; piece < 200; piece++) {
+        *at++ = vertices;
+        *at++ = 15;
+        memset(at, 0, 2 * sizeof(uint16_t) * vertices);
+        at += 2 * (vertices - 4);
+        memcpy(at, square, sizeof square);
+        at += WORDS(square);
+    }
+    return list;
+}
+
+/* What is written reads back; the sheet of 200 pieces of 64 vertices would be too long. */
+static void test_round_trip(void) {
+    struct buffer list = squares(53), output = make(list.count);
+    struct bytes sheet = make_bytes(VIKELODU_MOST_SHEET_BYTES);
+    size_t size = VIKELODU_SHEET_BYTES(200 * 53, 200);
+    expect("write", vikelodu_write(300, 2, 10, list.words, list.count, sheet.at, sheet.count), written(size));
+    expect("the byte after", sheet.at[size], 0xA7);
+    expect("read", vikelodu_read(sheet.at, size, output.words, output.count), two_pieces_read);
+    expect_same("the list", output, list);
+    expect_fences("around the output", output);
+    expect_fences_of_bytes("around the sheet", sheet);
+    drop(list);
+    drop(output);
+    list = squares(64);
+    expect("longest list", list.count, VIKELODU_MOST_LIST_WORDS);
+    uint64_t answer = vikelodu_write(300, 2, 10, list.words, list.count, sheet.at, sheet.count);
+    expect("too long a sheet", answer, refused(VIKELODU_SHEET_LENGTH, 0));
+    drop(list);
+    drop_bytes(sheet);
+}
+
+/* ---------------------------------------------------------------------- lay */
+
+/* W 10, R 2, N 10; three squares of 4 by 4 that share their vertex records, mask 1. */
+static const uint8_t three_squares[] = {
+    0x4E, 0x4A, 1, 0, 10, 0, 2, 0, 10, 0, 1, 0, 4, 0, 3, 0,                         /* front */
+    0,    0,    0, 0, 2,  0, 4, 0, 0,  0, 3, 0, 4, 0, 4, 0, 4, 0, 0, 0, 4, 0, 0, 0, /* vertices 1 to 4 */
+    1,    0,    1, 0, 2,  0,                                                        /* piece 1 */
+    1,    0,    1, 0, 3,  0,                                                        /* piece 2 */
+    1,    0,    1, 0, 0,  0,                                                        /* piece 3 */
+};
+
+static uint64_t laid(uint64_t pieces, uint64_t columns) { return pieces << 16 | columns << 32; }
+
+/* The buffers of one lay call. */
+struct job {
+    struct buffer strip, output, work;
+};
+
+static void drop_job(struct job of) {
+    drop(of.strip);
+    drop(of.output);
+    drop(of.work);
+}
+
+/* Lay with buffers of so many words: the answer, the entries, and every word after them as before, the work buffer zero. */
+static struct job lay(const char *what, const uint8_t *sheet, size_t sheet_bytes, size_t strip_words, size_t output_words,
+                      size_t work_words, uint64_t wanted, const uint16_t *entries, size_t entry_words) {
+    struct bytes lent = copy_bytes(sheet, sheet_bytes);
+    struct job made = {make(strip_words), make(output_words), make(work_words)};
+    struct buffer after = copy(made.output);
+    expect(what, vikelodu_lay(lent.at, lent.count, made.strip.words, made.strip.count, made.output.words, made.output.count,
+                              made.work.words, made.work.count),
+           wanted);
+    if (entry_words > 0) {
+        memcpy(after.words, entries, 2 * entry_words);
+    }
+    expect_same(what, made.output, after);
+    for (size_t i = 0; i < made.work.count; i++) {
+        expect(what, made.work.words[i], 0);
+    }
+    expect_bytes(what, lent, sheet);
+    expect_fences("around the strip", made.strip);
+    expect_fences("around the output", made.output);
+    expect_fences("around the work buffer", made.work);
+    expect_fences_of_bytes("around the sheet", lent);
+    drop(after);
+    drop_bytes(lent);
+    return made;
+}
+
+/* A refused job: strip and output have every word as before. */
+static void lay_refused(const char *what, const uint8_t *sheet, size_t sheet_bytes, size_t strip_words, size_t output_words,
+                        uint64_t number, uint64_t ordinal) {
+    struct job made = lay(what, sheet, sheet_bytes, strip_words, output_words, 6, refused(number, ordinal), NULL, 0);
+    struct buffer before = make(strip_words);
+    expect_same(what, made.strip, before);
+    drop(before);
+    drop_job(made);
+}
+
+static void test_lay(void) {
+    static const uint16_t all_placed[] = {0, 0, 0, 0, 0, 0, 0, 4, 0, 0, 2, 0};
+    static const uint16_t third_refused[] = {0, 0, 0, 0, 0, 0, 0, 4, 14, 0, 0, 0};
+    static const uint16_t none_placed[] = {12, 0, 0, 0, 12, 0, 0, 0, 12, 0, 0, 0};
+    static const uint8_t no_pieces[] = {0x4E, 0x4A, 1, 0, 10, 0, 2, 0, 7, 0, 0, 0, 0, 0, 0, 0};
+    static const size_t outputs[] = {12, 13, VIKELODU_MOST_LAY_WORDS};
+    size_t size = sizeof three_squares;
+    expect("words", WORDS(all_placed), VIKELODU_LAY_WORDS(3));
+    for (size_t i = 0; i < WORDS(outputs); i++) {
+        struct job made = lay("three squares", three_squares, size, VIKELODU_STRIP_WORDS(10, 4), outputs[i], 6, laid(3, 4),
+                              all_placed, 12);
+        expect_run(made.strip, 0, 0, 8);
+        expect_run(made.strip, 1, 0, 8);
+        expect_run(made.strip, 2, 0, 4);
+        expect_run(made.strip, 3, 0, 4);
+        expect("column 4", made.strip.words[4 + 4], 0);
+        PLACE("a fourth square", made.strip, square, 1, 6, placed(0, 2, 4));
+        drop_job(made);
+    }
+    struct job made = lay("a record too few", three_squares, size, VIKELODU_STRIP_WORDS(10, 3), 12, 6, laid(2, 2),
+                          third_refused, 12);
+    expect_run(made.strip, 0, 0, 8);
+    expect_run(made.strip, 1, 0, 8);
+    expect("column 2", made.strip.words[4 + 2], 0);
+    drop_job(made);
+    made = lay("no work buffer", three_squares, size, VIKELODU_STRIP_WORDS(10, 4), 12, 0, laid(0, 0), none_placed, 12);
+    expect("column 0", made.strip.words[4], 0);
+    drop_job(made);
+    made = lay("no pieces", no_pieces, sizeof no_pieces, VIKELODU_STRIP_WORDS(7, 1), 0, 0, laid(0, 0), NULL, 0);
+    expect("the figures", made.strip.words[0] == 10 && made.strip.words[1] == 2 && made.strip.words[2] == 7, 1);
+    drop_job(made);
+}
+
+/* Lay on buffers of bytes with an odd last byte, which is no part of them and stays. */
+static void test_lay_on_bytes(void) {
+    enum { STRIP = 2 * (4 + 10 + 4 * 4), OUTPUT = 2 * 12, WORK = 2 * 6 };
+    struct bytes all[] = {make_bytes(STRIP + 2), make_bytes(OUTPUT + 2), make_bytes(WORK + 2)};
+    uint16_t *words[3];
+    for (size_t i = 0; i < 3; i++) {
+        /* The byte before them is the fence, so the first aligned byte is the second. */
+        words[i] = (uint16_t *)(all[i].at + 1);
+    }
+    uint64_t answer = vikelodu_lay(three_squares, sizeof three_squares, words[0], (STRIP + 1) / 2, words[1], (OUTPUT + 1) / 2,
+                                   words[2], (WORK + 1) / 2);
+    expect("lay on bytes", answer, laid(3, 4));
+    expect("width, low byte first", all[0].at[1] == 10 && all[0].at[2] == 0, 1);
+    expect("second height, low byte first", all[1].at[1 + 14] == 4 && all[1].at[1 + 15] == 0, 1);
+    for (size_t i = 0; i < WORK; i++) {
+        expect("work byte", all[2].at[1 + i], 0);
+    }
+    for (size_t i = 0; i < 3; i++) {
+        expect("byte before", all[i].at[0], 0xA7);
+        expect("odd last byte", all[i].at[all[i].count - 1], 0xA7);
+        expect_fences_of_bytes("around the bytes", all[i]);
+        drop_bytes(all[i]);
+    }
+}
+
+/* The sheet of three squares with one byte changed. */
+static void lay_changed(const char *what, size_t place, uint8_t byte, uint64_t number, uint64_t ordinal) {
+    uint8_t sheet[sizeof three_squares];
+    memcpy(sheet, three_squares, sizeof sheet);
+    sheet[place] = byte;
+    lay_refused(what, sheet, sizeof sheet, VIKELODU_STRIP_WORDS(10, 4), 12, number, ordinal);
+}
+
+static void test_refused_jobs(void) {
+    enum { VERTEX = 16, PIECE = VERTEX + 6 * 4 };
+    size_t size = sizeof three_squares, words = VIKELODU_STRIP_WORDS(10, 4);
+    lay_refused("15 bytes", three_squares, 15, words, 12, VIKELODU_NO_SHEET, 0);
+    lay_refused("cut off", three_squares, size - 1, words, 12, VIKELODU_SHEET_LENGTH, 0);
+    lay_changed("width 0", 4, 0, VIKELODU_LIMITS, 0);
+    lay_refused("a strip short by one", three_squares, size, words - 1, 12, VIKELODU_STRIP_LENGTH, 0);
+    lay_refused("no records", three_squares, size, VIKELODU_STRIP_WORDS(10, 0), 12, VIKELODU_STRIP_LENGTH, 0);
+    lay_changed("a piece after itself", PIECE + 4, 1, VIKELODU_PIECES, 0);
+    lay_changed("a vertex past V", VERTEX + 6 * 3 + 4, 5, VIKELODU_VERTICES, 1);
+    lay_changed("x above 16,000", VERTEX + 6 + 1, 0x3F, VIKELODU_COORDINATE, 1);
+    lay_changed("mask 16 of the third", PIECE + 6 * 2 + 2, 16, VIKELODU_TURN, 3);
+    lay_changed("two vertices for the second", PIECE + 6, 3, VIKELODU_VERTICES, 2);
+    lay_refused("an output short by one", three_squares, size, words, 11, VIKELODU_OUTPUT, 0);
+}
+
 static void test_accessors(void) {
     uint64_t answer = placed(3, 4095, 15999);
     expect("number", vikelodu_number(answer), VIKELODU_GRANTED);
@@ -324,6 +682,12 @@ static void test_accessors(void) {
     expect("number", vikelodu_number(answer), 13);
     expect("ordinal", vikelodu_ordinal(answer), 1);
     expect("runs", vikelodu_runs((uint64_t)495040 << 32), 495040);
+    expect("width", vikelodu_width(two_pieces_read), 300);
+    expect("resolution", vikelodu_resolution(two_pieces_read), 2);
+    expect("columns", vikelodu_columns(two_pieces_read), 10);
+    expect("size", vikelodu_size(written(65536)), 65536);
+    expect("placed", vikelodu_placed(laid(200, 4096)), 200);
+    expect("used", vikelodu_used(laid(200, 4096)), 4096);
 }
 
 int main(void) {
@@ -336,6 +700,14 @@ int main(void) {
     test_no_room();
     test_cover();
     test_bytes();
+    test_read();
+    test_refused_sheets();
+    test_write();
+    test_refused_lists();
+    test_round_trip();
+    test_lay();
+    test_lay_on_bytes();
+    test_refused_jobs();
     if (different) {
         return 1;
     }

@@ -1,13 +1,14 @@
-/* Three squares of 4 by 4 units on a strip 10 units high, in columns of 2 units. */
+/* Three squares of 4 by 4 units on a strip 10 units high, in columns of 2 units: one by one, then as a job. */
 #include "vikelodu.h"
 
 #include <stdio.h>
 
 enum { WIDTH = 10, RESOLUTION = 2, COLUMNS = 10, RECORDS = 6 };
 
-int main(void) {
-    uint16_t strip[VIKELODU_STRIP_WORDS(COLUMNS, RECORDS)];
-    uint16_t work[300];
+static uint16_t strip[VIKELODU_STRIP_WORDS(COLUMNS, RECORDS)];
+static uint16_t work[300];
+
+static int one_by_one(void) {
     const uint16_t square[] = {0, 0, 4, 0, 4, 4, 0, 4};
     const uint16_t mask = 1; /* turn 0 alone */
 
@@ -26,3 +27,33 @@ int main(void) {
     }
     return 0;
 }
+
+/* The same pieces as a list, written as a sheet and laid from it. */
+static int as_a_job(void) {
+    /* The number of pieces; then for each its number of vertices, its mask and its outline. */
+    const uint16_t list[] = {3, 4, 1, 0, 0, 4, 0, 4, 4, 0, 4, 4, 1, 0, 0, 4, 0, 4, 4, 0, 4, 4, 1, 0, 0, 4, 0, 4, 4, 0, 4};
+    uint8_t sheet[VIKELODU_SHEET_BYTES(12, 3)];
+    uint16_t output[VIKELODU_LAY_WORDS(3)];
+
+    uint64_t answer = vikelodu_write(WIDTH, RESOLUTION, COLUMNS, list, sizeof list / 2, sheet, sizeof sheet);
+    if (vikelodu_number(answer) == VIKELODU_GRANTED) {
+        answer = vikelodu_lay(sheet, vikelodu_size(answer), strip, sizeof strip / 2, output, sizeof output / 2, work,
+                              sizeof work / 2);
+    }
+    if (vikelodu_number(answer) != VIKELODU_GRANTED) {
+        printf("job refused %d %d\n", vikelodu_number(answer), vikelodu_ordinal(answer));
+        return 1;
+    }
+    for (int piece = 1; piece <= 3; piece++) {
+        const uint16_t *entry = output + VIKELODU_LAY_WORDS(piece - 1);
+        if (entry[0] == VIKELODU_GRANTED) {
+            printf("%d placed %d %d %d\n", piece, entry[1], entry[2], entry[3]);
+        } else {
+            printf("%d refused %d\n", piece, entry[0]);
+        }
+    }
+    printf("used %d placed %d\n", vikelodu_used(answer), vikelodu_placed(answer));
+    return 0;
+}
+
+int main(void) { return one_by_one() || as_a_job(); }

@@ -224,3 +224,62 @@ fn sound_lists_and_sheets_pass() {
         assert!(check_read(&job.sheet(), 9_000).is_ok());
     }
 }
+
+/// Pieces of chosen vertex counts pass, and have so many in all.
+#[test]
+fn pieces_of_so_many_vertices() {
+    for vertices in 3..=64 {
+        let mut random = Random::new(vertices as u64);
+        let piece = sound_piece_of(&mut random, vertices, 8);
+        assert_eq!(piece.outline.len(), 2 * vertices);
+        assert!(is_sound(&piece.outline, piece.mask));
+    }
+    for (count, vertices) in [(0, 0), (1, 3), (1, 64), (3, 100), (200, 600), (200, 12_800)] {
+        let pieces = sound_pieces_of(&mut Random::new(7), count, vertices);
+        let all: usize = pieces.iter().map(|piece| piece.outline.len() / 2).sum();
+        assert_eq!((pieces.len(), all), (count, vertices));
+    }
+}
+
+/// A chain that comes back gets 6 or 7; without a round it ends and passes.
+#[test]
+fn chains_that_come_back() {
+    for (lead, round, fate) in [
+        (0, 1, Some(6)),
+        (5, 3, Some(6)),
+        (0, 200, Some(6)),
+        (0, 0, None),
+        (200, 0, None),
+        (201, 0, Some(6)),
+    ] {
+        let plan = round_of_pieces(&mut Random::new(8), lead, round);
+        let read = check_read(&plan.bytes(), 26_001);
+        assert_eq!(read.err().map(|no| no.number), fate, "{lead} {round}");
+    }
+    for (lead, round, fate) in [
+        (2, 1, Some(7)),
+        (0, 3, Some(7)),
+        (63, 1, Some(7)),
+        (0, 64, Some(7)),
+        (3, 0, None),
+        (64, 0, None),
+    ] {
+        let plan = round_of_vertices(&mut Random::new(9), lead, round);
+        let read = check_read(&plan.bytes(), 26_001);
+        assert_eq!(read.err().map(|no| no.number), fate, "{lead} {round}");
+    }
+}
+
+/// A sheet filled up with spare records reads as before.
+#[test]
+fn sheets_filled_up() {
+    for seed in 0..20 {
+        let mut random = Random::new(seed);
+        let of = job(&mut random);
+        let mut plan = SheetPlan::in_order(of.figures, &of.pieces);
+        let before = check_read(&plan.bytes(), 9_000);
+        plan.fill_up(&mut random, 10_920);
+        assert_eq!(plan.bytes().len(), 65_536);
+        assert_eq!(check_read(&plan.bytes(), 9_000), before);
+    }
+}

@@ -2,7 +2,7 @@
 -- Assumes nothing.
 use mathlib.Core.Path.{_≡_, refl, sym, ap, ap₂, subst, _∙_}
 use mathlib.Core.Logic.{_≢_}
-use mathlib.Core.Bool.{Bool, true, false, cond, _&&_, _||_}
+use mathlib.Core.Bool.{Bool, true, false, cond, _||_}
 use mathlib.Core.List.{List}
 use mathlib.Core.Option.{Option, none, some}
 use Prim.Native.Nat.{ℕ, suc, _+_, _≤_, _<_, max}
@@ -10,16 +10,18 @@ use native.Mathlib.Omega.{arith}
 use lib.Dec.{ltb, eqb}
 use borrow.Author.Tests.{eq-eqb, ne-eqb, le-ltb}
 use Rattle.defs.specs.declared.Position.{Position}
+use Rattle.defs.specs.Meaning.Placing.{endColumn}
 use Rattle.defs.specs.Computing.Cells.{Rows, pieceRuns, countRuns, allowedb, mostRuns}
 use Rattle.defs.specs.Computing.Search.{firstFree, beats, better, bestBelow}
-use Rattle.best.specs.Choice.{placeOf, RankOf, Ranks, beatsBy, betterBy, merged, Finds, OneTurn, TurnsTo}
+use Rattle.best.specs.Choice.{placeOf, RankOf, Ranks, beatsBy, betterBy, merged, limitOf, Finds, FindsTo, OneTurn, TurnsTo, Kept}
 use Rattle.best.specs.declared.Ranked.{Ranked}
 use Rattle.best.specs.declared.Choice.{Choice}
 use Rattle.best.specs.declared.Choice.the-variants.{Chosen, Nowhere}
+use Rattle.best.specs.declared.Standing.{Standing}
 use Rattle.best.specs.declared.Tried.{Tried}
 
-abbrev tried : ℕ → Choice → Tried
-tried n c = record { most = n; best = c }
+abbrev tried : Standing → ℕ → Choice → Tried
+tried d n c = record { most = n; best = c; stands = d }
 
 pub equal-end : (q p : Ranked) → q .end ≡ p .end → ltb (q .top) (p .top) ≡ beatsBy q p
 equal-end q p e = rw (le-ltb (q .end) (p .end) (omega arith), eq-eqb (q .end) (p .end) e) refl
@@ -33,12 +35,12 @@ other-end q p n = rw (ne-eqb (q .end) (p .end) n) (or-false (ltb (q .end) (p .en
 
 -- the greater of two numbers of runs
 pub second-most : (s x : Tried) (c : Choice) → c ≡ betterBy (s .best) (x .best) → s .most < x .most →
-    _≡_ {A = Tried} (record { most = x .most; best = c }) (merged s x)
-second-most s x c e l = ap₂ tried (omega arith) e
+    _≡_ {A = Tried} (record { most = x .most; best = c; stands = x .stands }) (merged s x)
+second-most s x c e l = ap₂ (tried (x .stands)) (omega arith) e
 
 pub first-most : (s x : Tried) (c : Choice) → c ≡ betterBy (s .best) (x .best) → x .most ≤ s .most →
-    _≡_ {A = Tried} (record { most = s .most; best = c }) (merged s x)
-first-most s x c e l = ap₂ tried (omega arith) e
+    _≡_ {A = Tried} (record { most = s .most; best = c; stands = x .stands }) (merged s x)
+first-most s x c e l = ap₂ (tried (x .stands)) (omega arith) e
 
 -- a better choice, by the tests that were made
 pub better-second : {a b : Choice} {p q : Ranked} {r : Bool} → a ≡ Chosen p → b ≡ Chosen q → r ≡ beatsBy q p → r ≡ true →
@@ -86,21 +88,52 @@ module _ (R : ℕ) (o : List ℕ) where
         ranks = better-ranks a b (f .ranks) (g .ranks);
       }
 
+  -- a position that ends after another does not beat it
+  later-loses : (q p : Position) → endColumn R o p < endColumn R o q → beats R o q p ≡ false
+  unfolding beats
+  later-loses q p l = rw (le-ltb (endColumn R o q) (endColumn R o p) (omega arith), ne-eqb (endColumn R o q) (endColumn R o p) (λ e. omega arith)) refl
+
+  -- and so a search that is stopped at the last column of the best so far is as good as a whole one
+  better-to : (N : ℕ) {x : Option Position} (y : Option Position) {a : Choice} (b : Choice) → Finds R o x a →
+      FindsTo R N o y (limitOf a N) b → Finds R o (better R o x y) (betterBy a b)
+  unfolding better
+  better-to N y (Chosen q) f g = better-finds f g
+  better-to N y {a} Nowhere f g =
+      record { is = go a y (f .ranks) g ∙ ap (λ (z : Option Position). better R o z y) (f .is); ranks = f .ranks }
+    where
+      go : (a : Choice) (y : Option Position) → Ranks R o a → FindsTo R N o y (limitOf a N) Nowhere →
+          placeOf a ≡ better R o (placeOf a) y
+      go Nowhere none k h = refl
+      go Nowhere (some q) k h = absurd (omega (arith, h q refl .0, h q refl .1))
+      go (Chosen p) none k h = refl
+      go (Chosen p) (some q) k h =
+          ap (λ (b : Bool). cond b (some q) (some (p .at)))
+          (sym (later-loses q (p .at) (omega (arith, k .end, h q refl .0, h q refl .1))))
+
 pub all-turns : {W R N : ℕ} {held : List (List Rows)} {o : List ℕ} {mask t words : ℕ} {s : Tried} → t ≤ 4 → 4 ≤ t →
     TurnsTo W R N held o mask t words s → TurnsTo W R N held o mask 4 words s
 all-turns {t = t} a b h = let e : t ≡ 4 = omega arith in rw e at h
 
+-- no runs were put yet
+pub none-kept : (o : List ℕ) (R : ℕ) (work : List ℕ) → Kept o R work 4 0
+none-kept o R work = record { stand = λ few. absurd (omega arith) }
+
+-- the limit is not beyond the strip
+pub limit-few : (c : Choice) (n : ℕ) → limitOf c n ≤ n
+limit-few (Chosen b) n = omega arith
+limit-few Nowhere n = omega arith
+
 -- The turns below 0, and one turn more.
 pub no-turns : (W R N : ℕ) (held : List (List Rows)) (o : List ℕ) (mask words : ℕ) →
-    TurnsTo W R N held o mask 0 words (record { most = 0; best = Nowhere })
+    TurnsTo W R N held o mask 0 words (record { most = 0; best = Nowhere; stands = record { turn = 4; runs = 0 } })
 unfolding mostRuns bestBelow
 no-turns W R N held o mask words = record { most = refl; best = λ h. record { is = refl; ranks = tt } }
 
 module _ {W R N : ℕ} {held : List (List Rows)} {o : List ℕ} {mask t words : ℕ} {s : Tried} (so-far : TurnsTo W R N held o mask t words s) where
-  pub turn-more : {x : Tried} → allowedb mask t ≡ true → OneTurn W R N held o t words x →
+  pub turn-more : {x : Tried} {limit : ℕ} → allowedb mask t ≡ true → limit ≡ limitOf (s .best) N → OneTurn W R N held o t words limit x →
       TurnsTo W R N held o mask (t + 1) words (merged s x)
   unfolding mostRuns bestBelow
-  turn-more {x} e one = let n : t + 1 ≡ suc t = omega arith in rw n (go e)
+  turn-more {x} {limit} e stop one = let n : t + 1 ≡ suc t = omega arith in rw n (go e)
     where
       go : allowedb mask t ≡ true → TurnsTo W R N held o mask (suc t) words (merged s x)
       go e =
@@ -109,7 +142,7 @@ module _ {W R N : ℕ} {held : List (List Rows)} {o : List ℕ} {mask t words : 
             best =
                 λ h.
                 subst (λ (b : Bool). Finds R o (better R o (bestBelow W R N held o mask t) (cond b (firstFree W R N held o t) none)) (betterBy (s .best) (x .best)))
-                (sym e) (better-finds R o (so-far .best (omega arith)) (one .best (omega arith)));
+                (sym e) (better-to R o N _ (x .best) (so-far .best (omega arith)) (rw stop at (one .best (omega arith))));
           }
 
   better-none : (x : Option Position) → better R o x none ≡ x

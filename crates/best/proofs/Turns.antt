@@ -1,31 +1,37 @@
--- One turn: its runs in the work buffer, and what the walk over them says of the definition's search.
+-- One turn: its runs in the work buffer, and what a search with them says of the definition's search.
 -- Assumes nothing.
-use mathlib.Core.Path.{_≡_, refl, sym, ap, _∙_}
-use mathlib.Core.Bool.{Bool, true}
-use mathlib.Core.List.{List, [], _++_}
-use Prim.Native.Nat.{ℕ, _+_, _*_, _/_, _≤_, _<_}
+use mathlib.Core.Path.{_≡_, refl, sym, ap, subst, _∙_}
+use mathlib.Core.Logic.{⊎-elim}
+use mathlib.Core.Bool.{Bool, true, false, cond}
+use mathlib.Core.List.{List}
+use mathlib.Core.Option.{Option, none, some, Option·some-injective, Option·none-ne-some}
+use Prim.Native.Nat.{ℕ, _+_, _-_, _*_, _/_, _≤_, _<_}
 use native.Mathlib.Omega.{arith}
 use lib.ListN.{length, take, drop}
 use lib.Seq.{sets, sets-eq, take-at}
+use Rattle.defs.specs.declared.Position.{Position}
 use Rattle.defs.specs.Meaning.Outline.{KeepsOrder}
 use Rattle.defs.specs.Meaning.Turn.{turned, extentX, extentY}
 use Rattle.defs.specs.Meaning.Question.{Question10}
 use Rattle.defs.specs.Meaning.Placing.{columnsFor, endColumn, top}
-use Rattle.defs.specs.Computing.Cells.{Rows, pieceRuns, countRuns, allowedb}
+use Rattle.defs.specs.Computing.Cells.{Rows, pieceRuns, allowedb}
 use Rattle.defs.specs.Computing.Calls.{runsWords}
-use Rattle.defs.specs.Computing.Search.{firstFree}
+use Rattle.defs.specs.Computing.Search.{freeb, dropN, position, firstFree}
 use Rattle.laws.proofs.Questions.{allowed}
+use Rattle.geom.proofs.Strip.{lt-or-le}
 use Rattle.geom.proofs.RunWords.{runs-length}
 use Rattle.cells.specs.Put.{PutRuns}
 use Rattle.tables.specs.Flat.{Laid, tableOf}
 use Rattle.tables.specs.Piece.{Stands}
+use Rattle.tables.proofs.FirstFree.{first-at}
 use Rattle.walk.specs.declared.Spot.{Spot}
 use Rattle.walk.specs.declared.Spot.the-variants.{Found, None}
-use Rattle.walk.specs.Free.{Frame, Searched}
-use Rattle.walk.proofs.Searches.{frame-of, found-is, none-is}
+use Rattle.walk.specs.Free.{Frame, NoHeight, Searched}
+use Rattle.walk.proofs.Searches.{frame-of, free-is, found-is}
+use Rattle.round.specs.Range.{SearchedIn}
 use Rattle.best.specs.declared.Choice.{Choice}
 use Rattle.best.specs.declared.Choice.the-variants.{Nowhere}
-use Rattle.best.specs.Choice.{ranked, SpotFits, Finds, OneTurn}
+use Rattle.best.specs.Choice.{ranked, SpotFits, SearchedTo, FindsTo, OneTurn, Kept}
 
 -- words written at the start are read there
 stored-front : (l ws : List ℕ) → length ws ≤ length l → take (length ws) (sets l 0 ws) ≡ ws
@@ -33,9 +39,9 @@ stored-front l ws h = ap (take (length ws)) (sets-eq ws l 0 (omega arith)) ∙ t
 
 module _ {o : List ℕ} {t R : ℕ} {work work' : List ℕ} {k : ℕ} (put : PutRuns o t R work work' k) where
   -- more runs than the work buffer has room for
-  pub too-many : (W N : ℕ) (held : List (List Rows)) → length work' / 3 < k →
-      OneTurn W R N held o t (length work) (record { most = k; best = Nowhere })
-  too-many W N held m = record { most = put .count; best = λ r. absurd (omega (arith, put .long)) }
+  pub too-many : (W N : ℕ) (held : List (List Rows)) (limit : ℕ) → length work' / 3 < k →
+      OneTurn W R N held o t (length work) limit (record { most = k; best = Nowhere; stands = record { turn = t; runs = k } })
+  too-many W N held limit m = record { most = put .count; best = λ r. absurd (omega (arith, put .long)) }
 
   pub stands : k ≤ length work' / 3 → Stands (pieceRuns o t R) work' k
   stands m =
@@ -48,7 +54,26 @@ module _ {o : List ℕ} {t R : ℕ} {work work' : List ℕ} {k : ℕ} (put : Put
         words = rw (same, put .written fits) (stored-front work (runsWords 0 (pieceRuns o t R)) (omega arith));
       }
 
--- The walk over the runs of turn t, whose columns and height were worked out.
+  pub put-kept : Kept o R work' t k
+  put-kept = record { stand = λ _ fits. stands (omega (arith, put .count)) }
+
+-- a whole search, and one from column 0 to the last from which the piece ends at `limit`
+module _ (f l h r : List ℕ) (N W p w t limit : ℕ) where
+  pub walked-to : (s : Spot) → limit ≤ N → Searched f l h r N W p w t s → SearchedTo f l h r N W p w t limit s
+  walked-to (Found c y) few e = e
+  walked-to None few e = λ c u. e c (omega arith)
+
+  pub rounded-to : {end : ℕ} (s : Spot) → limit ≤ N → end ≡ limit + 1 - w → SearchedIn f l h r N W p w t 0 end s →
+      SearchedTo f l h r N W p w t limit s
+  rounded-to (Found c y) few q e = record { fits = e .fits; height = e .height; least = λ b. e .least b (omega arith) }
+  rounded-to None few q e = λ c u. e c (omega arith) (omega arith) (omega arith)
+
+-- what is found where a test passes
+found-where : (b : Bool) {x q : Position} → cond b (some x) none ≡ some q → (b ≡ true) × (x ≡ q)
+found-where true e = (refl, Option·some-injective _ _ e)
+found-where false {q = q} e = absurd (Option·none-ne-some q e)
+
+-- The search with the runs of turn t, whose columns and height were worked out.
 module _
     {f l h r : List ℕ}
     {W N n p w wide tall : ℕ}
@@ -65,21 +90,40 @@ module _
   pub frame : Frame f l h r N W p wide tall
   frame = rw (wide-is, up) (frame-of o t R laid stood)
 
-  pub spot-fits : (s : Spot) → W ≤ 16000 → N ≤ 4096 → Searched f l h r N W p wide tall s → SpotFits s wide tall
-  spot-fits (Found c y) a b e = (omega (arith, e .fits), omega (arith, e .height .fits))
-  spot-fits None a b e = tt
+  pub spot-fits : (limit : ℕ) (s : Spot) → W ≤ 16000 → N ≤ 4096 → SearchedTo f l h r N W p wide tall limit s → SpotFits s wide tall
+  spot-fits limit (Found c y) a b e = (omega (arith, e .fits), omega (arith, e .height .fits))
+  spot-fits limit None a b e = tt
 
-  finds : (s : Spot) → Searched f l h r N W p (columnsFor (extentX o t) R) (extentY o t) s →
-      Finds R o (firstFree W R N (tableOf f l h N) o t) (ranked s t (columnsFor (extentX o t) R) (extentY o t))
+  -- a position that the definition finds is free, so it is none of those that have no free height
+  after-limit : (limit : ℕ) → ((c : ℕ) → c + columnsFor (extentX o t) R ≤ limit → NoHeight f l h r W p (extentY o t) c) →
+      (q : Position) → firstFree W R N (tableOf f l h N) o t ≡ some q → (limit < endColumn R o q) × (endColumn R o q ≤ N)
+  unfolding firstFree endColumn
+  after-limit limit full q e =
+      let column = first-at _ 0 _ q e in
+      let c = column .at in
+      let height = first-at _ 0 _ q (column .finds) in
+      let y = height .at in
+      let here = found-where (freeb y (pieceRuns o t R) (dropN c (tableOf f l h N))) (height .finds) in
+      let on-strip : c + columnsFor (extentX o t) R ≤ N = omega (arith, column .below) in
+      subst (λ (a : Position). (limit < a .column + columnsFor (extentX o (a .turn)) R) × (a .column + columnsFor (extentX o (a .turn)) R ≤ N))
+      (here .1) (
+        ⊎-elim (λ u. u)
+            (λ u. absurd (full c u .none y (omega (arith, height .below)) (free-is o t R laid stood c y on-strip .1 (here .0))))
+            (lt-or-le limit (c + columnsFor (extentX o t) R)),
+        on-strip,
+      )
+
+  finds : (limit : ℕ) (s : Spot) → SearchedTo f l h r N W p (columnsFor (extentX o t) R) (extentY o t) limit s →
+      FindsTo R N o (firstFree W R N (tableOf f l h N) o t) limit (ranked s t (columnsFor (extentX o t) R) (extentY o t))
   unfolding endColumn top
-  finds (Found c y) e =
+  finds limit (Found c y) e =
       record { is = sym (found-is o t R laid stood e); ranks = record { end = refl; top = refl } }
-  finds None e = record { is = sym (none-is o t R laid stood e); ranks = tt }
+  finds limit None e = after-limit limit e
 
-  pub turn-tried : (words : ℕ) (s : Spot) {c : Choice} → Searched f l h r N W p wide tall s → c ≡ ranked s t wide tall →
-      OneTurn W R N (tableOf f l h N) o t words (record { most = p; best = c })
-  turn-tried words s e q =
-      record { most = stood .count; best = λ _. rw (q, wide-is, up) (finds s (rw (wide-is, up) at e)) }
+  pub turn-tried : (words limit : ℕ) (s : Spot) {c : Choice} → SearchedTo f l h r N W p wide tall limit s → c ≡ ranked s t wide tall →
+      OneTurn W R N (tableOf f l h N) o t words limit (record { most = p; best = c; stands = record { turn = t; runs = p } })
+  turn-tried words limit s e q =
+      record { most = stood .count; best = λ _. rw (q, wide-is, up) (finds limit s (rw (wide-is, up) at e)) }
 
 -- question 10 says that an allowed turn keeps its order
 pub keeps-turn : (o : List ℕ) (mask t : ℕ) {r : Bool} → t ≤ 3 → Question10 o mask → r ≡ allowedb mask t → r ≡ true →

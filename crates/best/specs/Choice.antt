@@ -3,7 +3,7 @@ use mathlib.Core.Path.{_≡_}
 use mathlib.Core.Bool.{Bool, cond, _&&_, _||_}
 use mathlib.Core.List.{List}
 use mathlib.Core.Option.{Option, none, some}
-use Prim.Native.Nat.{ℕ, _+_, _*_, _≤_, max}
+use Prim.Native.Nat.{ℕ, _+_, _*_, _≤_, _<_, max, min}
 use lib.Dec.{ltb, eqb}
 use lib.ListN.{length}
 use Rattle.defs.specs.declared.Position.{Position}
@@ -11,7 +11,9 @@ use Rattle.defs.specs.Meaning.Placing.{endColumn, top}
 use Rattle.defs.specs.Computing.Cells.{Rows, pieceRuns, countRuns, mostRuns}
 use Rattle.defs.specs.Computing.Search.{firstFree, bestBelow}
 use Rattle.outline.specs.Vertex.{Lent, BoundsOf}
-use Rattle.tables.specs.Flat.{Laid, tableOf}
+use Rattle.tables.specs.Flat.{Laid}
+use Rattle.tables.specs.Piece.{Stands}
+use Rattle.walk.specs.Free.{FirstSpot, NoHeight}
 use Rattle.walk.specs.declared.Spot.{Spot}
 use Rattle.walk.specs.declared.Spot.the-variants.{Found, None}
 use Rattle.best.specs.declared.Ranked.{Ranked}
@@ -43,7 +45,12 @@ betterBy Nowhere (Chosen q) = Chosen q
 betterBy (Chosen p) (Chosen q) = cond (beatsBy q p) (Chosen q) (Chosen p)
 
 abbrev pub merged : Tried → Tried → Tried
-merged s x = record { most = max (s .most) (x .most); best = betterBy (s .best) (x .best) }
+merged s x = record { most = max (s .most) (x .most); best = betterBy (s .best) (x .best); stands = x .stands }
+
+-- a position that ends after this column, of n, does not win against the choice
+abbrev pub limitOf : Choice → ℕ → ℕ
+limitOf (Chosen b) n = min (b .end) n
+limitOf Nowhere n = n
 
 -- a spot of turn t, with its rank
 abbrev pub ranked : Spot → ℕ → ℕ → ℕ → Choice
@@ -61,6 +68,16 @@ pub record Finds (R : ℕ) (o : List ℕ) (x : Option Position) (c : Choice) : T
   pub is : placeOf c ≡ x
   pub ranks : Ranks R o c
 
+-- a choice is what the definition finds; if it is none, what the definition finds ends after column `limit`, and on the strip
+abbrev pub FindsTo : ℕ → ℕ → List ℕ → Option Position → ℕ → Choice → Type 0
+FindsTo R N o x limit (Chosen b) = Finds R o x (Chosen b)
+FindsTo R N o x limit Nowhere = (q : Position) → x ≡ some q → (limit < endColumn R o q) × (endColumn R o q ≤ N)
+
+-- the first free position; if none was found, none ends at column `limit` or before it
+abbrev pub SearchedTo : (f l h r : List ℕ) (N W p w t limit : ℕ) → Spot → Type 0
+SearchedTo f l h r N W p w t limit (Found c y) = FirstSpot f l h r N W p w t c y
+SearchedTo f l h r N W p w t limit None = (c : ℕ) → c + w ≤ limit → NoHeight f l h r W p t c
+
 -- an outline that passes 7 and 8, its bounds, and a table laid flat
 pub record Ready (f l h o : List ℕ) (W R N left right foot head : ℕ) : Type 0 where
   pub lent : Lent o
@@ -72,12 +89,16 @@ pub record Ready (f l h o : List ℕ) (W R N left right foot head : ℕ) : Type 
   pub count : ℕ
   pub table : Laid f l h W N count
 
--- turn t, with work of so many words
-pub record OneTurn (W R N : ℕ) (held : List (List Rows)) (o : List ℕ) (t words : ℕ) (s : Tried) : Type 0 where
+-- turn t, with work of so many words, searched up to column `limit`
+pub record OneTurn (W R N : ℕ) (held : List (List Rows)) (o : List ℕ) (t words limit : ℕ) (s : Tried) : Type 0 where
   pub most : s .most ≡ countRuns (pieceRuns o t R)
-  pub best : 3 * s .most ≤ words → Finds R o (firstFree W R N held o t) (s .best)
+  pub best : 3 * s .most ≤ words → FindsTo R N o (firstFree W R N held o t) limit (s .best)
 
 -- the allowed turns below t
 pub record TurnsTo (W R N : ℕ) (held : List (List Rows)) (o : List ℕ) (mask t words : ℕ) (s : Tried) : Type 0 where
   pub most : s .most ≡ mostRuns o mask R t
   pub best : 3 * s .most ≤ words → Finds R o (bestBelow W R N held o mask t) (s .best)
+
+-- where a turn's runs were put into the work buffer, and all of them fit, these k stand there
+pub record Kept (o : List ℕ) (R : ℕ) (work : List ℕ) (t k : ℕ) : Type 0 where
+  pub stand : t ≤ 3 → 3 * countRuns (pieceRuns o t R) ≤ length work → Stands (pieceRuns o t R) work k

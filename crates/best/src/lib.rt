@@ -1,14 +1,15 @@
 // The best position among the allowed turns.
 
 ghost use mathlib.Core.Path.{_≡_};
-ghost use Prim.Native.Nat.{_+_, _≤_, _<_};
+ghost use Prim.Native.Nat.{_+_, _-_, _≤_, _<_};
 ghost use lib.ListN.{length};
 ghost use Rattle.defs.specs.Meaning.Outline.{KeepsOrder};
 ghost use Rattle.defs.specs.Meaning.Turn.{turned};
 ghost use Rattle.defs.specs.Meaning.Placing.{columnsFor};
 ghost use Rattle.defs.specs.Meaning.Question.{Question10};
 ghost use Rattle.tables.specs.Flat.{tableOf};
-ghost use Rattle.best.specs.Choice.{beatsBy, betterBy, merged, SpotFits, ranked, Ready, OneTurn, TurnsTo};
+ghost use Rattle.walk.specs.Free.{Frame};
+ghost use Rattle.best.specs.Choice.{beatsBy, betterBy, merged, limitOf, SpotFits, ranked, Ready, SearchedTo, OneTurn, TurnsTo, Kept};
 use defs::Figures;
 use defs::Position;
 use outline::Bounds;
@@ -27,10 +28,23 @@ pub enum Choice {
     Nowhere,
 }
 
-// The most runs of the turns tried, and the best position in them.
+// The turn whose runs were put into the work buffer last, over 3 where none was, and how many they are.
+pub struct Standing {
+    pub turn: u16,
+    pub runs: usize,
+}
+
+// The most runs of the turns tried, the best position in them, and what stands in the work buffer.
 pub struct Tried {
     pub most: usize,
     pub best: Choice,
+    pub stands: Standing,
+}
+
+// How a turn is searched: by the walk, or going round the piece's runs.
+pub enum Way {
+    Walk,
+    Round,
 }
 
 // "w/R rounded up"
@@ -76,15 +90,59 @@ fn merge(s: Tried, x: Tried) -> Tried
     let a = s.best;
     let b = x.best;
     let c = better(a, b);
+    let d = x.stands;
     if s.most < x.most {
         return Tried {
             most: x.most,
             best: c,
+            stands: d,
         };
     }
     Tried {
         most: s.most,
         best: c,
+        stands: d,
+    }
+}
+
+// The last column, counted from 1, of the positions that may win against the choice, in n columns.
+fn limit_of(c: Choice, n: usize) -> usize
+    ensures { λ e. ⌜ e ≡ limitOf c n ⌝ }
+{
+    match c {
+        Choice::Chosen(r) => { if r.end < n { r.end } else { n } }
+        Choice::Nowhere => n,
+    }
+}
+
+// Where the columns end from which w columns go up to `limit` at most.
+fn stop_at(limit: usize, w: usize) -> usize
+    requires { ⌜ limit ≤ 4096 ⌝ }
+    ensures { λ e. ⌜ e ≡ limit + 1 - w ⌝ }
+{
+    if limit < w { 0 } else { limit - w + 1 }
+}
+
+// The least free position of a piece. Going round, only positions up to the last column `limit` are tried.
+fn search(
+    first: &[u16],
+    lows: &[u16],
+    highs: &[u16],
+    runs: &[u16],
+    s: Search,
+    way: Way,
+    limit: usize,
+) -> Spot
+    requires { ⌜ Frame (now first) (now lows) (now highs) (now runs) (s .columns) (s .width) (s .runs) (s .wide) (s .tall) ⌝
+        ∗ ⌜ (s .width ≤ 16000) × (s .columns ≤ 4096) × (limit ≤ s .columns) ⌝ }
+    ensures { λ a. ⌜ SearchedTo (now (first .entry)) (now (lows .entry)) (now (highs .entry)) (now (runs .entry)) (s .columns) (s .width) (s .runs) (s .wide) (s .tall) limit a ⌝ }
+{
+    match way {
+        Way::Walk => walk::walk_turn(first, lows, highs, runs, s),
+        Way::Round => {
+            let end = stop_at(limit, s.wide);
+            round::round_range(first, lows, highs, runs, s, 0, end)
+        }
     }
 }
 
@@ -107,7 +165,8 @@ fn rank(s: Spot, t: u16, wide: usize, tall: u16) -> Choice
     }
 }
 
-// The least free position in turn t, where the runs of the turn fit in the work buffer.
+// The least free position in turn t, where the runs of the turn fit in the work buffer. One whose last column is after `limit` may be
+// left out.
 fn try_turn(
     g: Figures,
     first: &[u16],
@@ -116,11 +175,14 @@ fn try_turn(
     o: &[u16],
     b: Bounds,
     t: u16,
+    way: Way,
+    limit: usize,
     work: &mut [u16],
 ) -> Tried
     requires { ⌜ Ready (now first) (now lows) (now highs) (now o) (g .width) (g .resolution) (g .columns) (b .left) (b .right) (b .foot) (b .head) ⌝
-        ∗ ⌜ t ≤ 3 ⌝ ∗ ⌜ KeepsOrder (turned (now o) t) ⌝ }
-    ensures { λ s. ⌜ OneTurn (g .width) (g .resolution) (g .columns) (tableOf (now (first .entry)) (now (lows .entry)) (now (highs .entry)) (g .columns)) (now (o .entry)) t (length (now (work .entry))) s ⌝ }
+        ∗ ⌜ t ≤ 3 ⌝ ∗ ⌜ KeepsOrder (turned (now o) t) ⌝ ∗ ⌜ limit ≤ g .columns ⌝ }
+    ensures { λ s. ⌜ OneTurn (g .width) (g .resolution) (g .columns) (tableOf (now (first .entry)) (now (lows .entry)) (now (highs .entry)) (g .columns)) (now (o .entry)) t (length (now (work .entry))) limit s ⌝
+        ∗ ⌜ Kept (now (o .entry)) (g .resolution) (now (work .exit)) (s .stands .turn) (s .stands .runs) ⌝ }
 {
     let e = outline::extent_of(o, b, t);
     let k = cells::put_runs(o, b, t, g.resolution, e.w, work);
@@ -128,25 +190,22 @@ fn try_turn(
         return Tried {
             most: k,
             best: Choice::Nowhere,
+            stands: Standing { turn: t, runs: k },
         };
     }
     let wide = columns_for(e.w, g.resolution);
-    let s = walk::walk_turn(
-        first,
-        lows,
-        highs,
-        work,
-        Search {
-            columns: g.columns as usize,
-            width: g.width,
-            runs: k,
-            wide: wide,
-            tall: e.h,
-        },
-    );
+    let figures = Search {
+        columns: g.columns as usize,
+        width: g.width,
+        runs: k,
+        wide: wide,
+        tall: e.h,
+    };
+    let s = search(first, lows, highs, work, figures, way, limit);
     Tried {
         most: k,
         best: rank(s, t, wide, e.h),
+        stands: Standing { turn: t, runs: k },
     }
 }
 
@@ -160,16 +219,21 @@ fn allowed_turn(
     b: Bounds,
     mask: u16,
     t: u16,
+    way: Way,
     work: &mut [u16],
     s: Tried,
 ) -> Tried
     requires { ⌜ Ready (now first) (now lows) (now highs) (now o) (g .width) (g .resolution) (g .columns) (b .left) (b .right) (b .foot) (b .head) ⌝
         ∗ ⌜ t ≤ 3 ⌝ ∗ ⌜ Question10 (now o) mask ⌝
-        ∗ ⌜ TurnsTo (g .width) (g .resolution) (g .columns) (tableOf (now first) (now lows) (now highs) (g .columns)) (now o) mask t (length (now work)) s ⌝ }
-    ensures { λ r. ⌜ TurnsTo (g .width) (g .resolution) (g .columns) (tableOf (now (first .entry)) (now (lows .entry)) (now (highs .entry)) (g .columns)) (now (o .entry)) mask (t + 1) (length (now (work .entry))) r ⌝ }
+        ∗ ⌜ TurnsTo (g .width) (g .resolution) (g .columns) (tableOf (now first) (now lows) (now highs) (g .columns)) (now o) mask t (length (now work)) s ⌝
+        ∗ ⌜ Kept (now o) (g .resolution) (now work) (s .stands .turn) (s .stands .runs) ⌝ }
+    ensures { λ r. ⌜ TurnsTo (g .width) (g .resolution) (g .columns) (tableOf (now (first .entry)) (now (lows .entry)) (now (highs .entry)) (g .columns)) (now (o .entry)) mask (t + 1) (length (now (work .entry))) r ⌝
+        ∗ ⌜ Kept (now (o .entry)) (g .resolution) (now (work .exit)) (r .stands .turn) (r .stands .runs) ⌝ }
 {
     if checks::allows(mask, t) {
-        let x = try_turn(g, first, lows, highs, o, b, t, work);
+        let c = s.best;
+        let limit = limit_of(c, g.columns as usize);
+        let x = try_turn(g, first, lows, highs, o, b, t, way, limit, work);
         return merge(s, x);
     }
     s
@@ -184,19 +248,22 @@ pub fn best_turn(
     o: &[u16],
     b: Bounds,
     mask: u16,
+    way: Way,
     work: &mut [u16],
 ) -> Tried
     requires { ⌜ Ready (now first) (now lows) (now highs) (now o) (g .width) (g .resolution) (g .columns) (b .left) (b .right) (b .foot) (b .head) ⌝
         ∗ ⌜ Question10 (now o) mask ⌝ }
-    ensures { λ r. ⌜ TurnsTo (g .width) (g .resolution) (g .columns) (tableOf (now (first .entry)) (now (lows .entry)) (now (highs .entry)) (g .columns)) (now (o .entry)) mask 4 (length (now (work .entry))) r ⌝ }
+    ensures { λ r. ⌜ TurnsTo (g .width) (g .resolution) (g .columns) (tableOf (now (first .entry)) (now (lows .entry)) (now (highs .entry)) (g .columns)) (now (o .entry)) mask 4 (length (now (work .entry))) r ⌝
+        ∗ ⌜ Kept (now (o .entry)) (g .resolution) (now (work .exit)) (r .stands .turn) (r .stands .runs) ⌝ }
 {
     let mut s = Tried {
         most: 0,
         best: Choice::Nowhere,
+        stands: Standing { turn: 4, runs: 0 },
     };
     let mut t = 0;
     while t < 4 {
-        s = allowed_turn(g, first, lows, highs, o, b, mask, t, work, s);
+        s = allowed_turn(g, first, lows, highs, o, b, mask, t, way, work, s);
         t += 1;
     }
     s

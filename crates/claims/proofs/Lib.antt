@@ -7,3 +7,7 @@ pub mod Apart
 pub mod Whole
 pub mod CoverCells
 pub mod SheetsBack
+pub mod LayTotals
+pub mod LayTables
+pub mod LayStrips
+pub mod LayList

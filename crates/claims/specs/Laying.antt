@@ -3,26 +3,18 @@ use mathlib.Core.Path.{_≡_}
 use mathlib.Core.List.{List, []}
 use Prim.Native.Nat.{ℕ, zero, suc, _+_, _*_, _≤_, _<_}
 use lib.ListN.{length, getD}
-use Rattle.defs.specs.declared.Fate.{Fate}
-use Rattle.defs.specs.declared.Fate.the-variants.{Placed as FatePlaced, Refused as FateRefused}
-use Rattle.defs.specs.declared.Placing.{Placing}
-use Rattle.defs.specs.declared.Placing.the-variants.{Placed, Refused}
 use Rattle.defs.specs.declared.Laying.the-variants.{Laid}
 use Rattle.defs.specs.declared.Totals.{Totals}
 use Rattle.defs.specs.Answer.{fateWords}
 use Rattle.defs.specs.Meaning.Sheet.{Piece, SheetHolds, sheetW, sheetR, sheetN}
 use Rattle.defs.specs.Meaning.Job.{Used, CountPlaced}
-use Rattle.defs.specs.Computing.Lay.{LayStep}
+use Rattle.defs.specs.Computing.Lay.{fateOf, LayStep}
 use Rattle.claims.specs.Trace.{Trace}
-
--- a piece's fate by its place call
-abbrev pub fateOf : Placing → Fate
-fateOf (Placed p) = FatePlaced p
-fateOf (Refused r) = FateRefused (r .number)
+use Rattle.claims.specs.Demand3.{Demand3}
 
 -- "Lay reads a sheet, opens the lent strip and places the pieces in chain order, going on after a piece that is refused.
 -- Output is four words a piece … The answer adds pieces placed and used columns"
-pub record LaysList (b s out : List ℕ) (t : Totals) (s' out' work : List ℕ) : Type 0 where
+pub record LaysList (b s : List ℕ) (t : Totals) (s' out' work : List ℕ) : Type 0 where
   pub pieces : List Piece
   pub sheet : SheetHolds b pieces
   pub list : Trace (sheetW b) (sheetR b) (sheetN b)
@@ -40,4 +32,10 @@ pub record LaysList (b s out : List ℕ) (t : Totals) (s' out' work : List ℕ) 
 unfoldable pub Lay-is-a-list : Type 0
 Lay-is-a-list =
     (b s out work : List ℕ) (t : Totals) (s' out' work' : List ℕ) →
-    LayStep b s out work (Laid t) s' out' work' → LaysList b s out t s' out' work
+    LayStep b s out work (Laid t) s' out' work' → LaysList b s t s' out' work
+
+-- Demand 3 for a laid job: its calls are a list of place calls, of which all of demand 3 holds.
+unfoldable pub Lay-demand3 : Type 0
+Lay-demand3 =
+    (b s out work : List ℕ) (t : Totals) (s' out' work' : List ℕ) →
+    LayStep b s out work (Laid t) s' out' work' → (l : LaysList b s t s' out' work) × Demand3 (l .list)

@@ -4,7 +4,7 @@
 use mathlib.Core.Path.{_≡_, refl, ap, ap₂, sym, _∙_}
 use mathlib.Core.Bool.{cond}
 use mathlib.Core.List.{List, [], _∷_, _++_}
-use Prim.Native.Nat.{ℕ, zero, suc, _+_, _-_, _*_, _≤_, _<_}
+use Prim.Native.Nat.{ℕ, zero, suc, _+_, _-_, _*_, _/_, _%_, _≤_, _<_}
 use native.Mathlib.Omega.{arith}
 use native.Mathlib.Numerals.{add-one}
 use native.Mathlib.Decide.{decLt}
@@ -18,7 +18,7 @@ use Rattle.defs.specs.Computing.Words.{heads, columnWords, runWords, freeWords}
 use Rattle.tables.specs.Flat.{rowAt, rowsFrom, rowsIn, tableOf, Flat}
 use Rattle.tables.proofs.Flats.{column-count, after-column, count-is}
 use Rattle.tables.proofs.WrittenWords.{length-column, length-runs}
-use Rattle.encode.specs.Stored.{link, firstRecord, firstRecords}
+use Rattle.encode.specs.Stored.{link, firstRecord, firstRecords, partsOf}
 
 -- f k to f (end - 1), with the first taken out
 pub from-next : {A : Type 0} (f : ℕ → A) (k end : ℕ) → k < end →
@@ -49,24 +49,52 @@ link-is i end n e = go (decLt i end)
     go (yes l) = simp (lt-ltb i end l, ne-eqb n 0 (λ z. omega arith))
     go (no l) = simp (le-ltb i end (omega arith), eq-eqb n 0 (omega arith))
 
--- run i's record, and the column's records after it
-pub column-next : (k : ℕ) (l h : List ℕ) (i end : ℕ) → i < end →
+column-step : (k : ℕ) (l h : List ℕ) (i end : ℕ) → i < end →
     columnWords k (i + 1) (rowsFrom l h i (end - i)) ≡
     k ∷ getD l i 0 ∷ getD h i 0 ∷ link (i + 1) end ∷ columnWords k (i + 1 + 1) (rowsFrom l h (i + 1) (end - (i + 1)))
 unfolding columnWords rowsFrom
-column-next k l h i end b =
+column-step k l h i end b =
     rw (from-next (rowAt l h) i end b, link-is (i + 1) end _ (length-listFrom (rowAt l h) (i + 1) (end - (i + 1))))
 
 pub column-end : (k r : ℕ) (l h : List ℕ) (i end : ℕ) → end ≤ i → columnWords k r (rowsFrom l h i (end - i)) ≡ []
 unfolding columnWords rowsFrom
 column-end k r l h i end b = rw (from-end (rowAt l h) i end b)
 
-pub free-next : (N i Q : ℕ) → i < Q →
-    freeWords N (i + 1) (Q - i) ≡ N ∷ 0 ∷ 0 ∷ link (i + 1) Q ∷ freeWords N (i + 1 + 1) (Q - (i + 1))
+-- run i's record, and the column's records after it
+pub column-next : (k : ℕ) (l h : List ℕ) (i end : ℕ) → i + 1 < end →
+    columnWords k (i + 1) (rowsFrom l h i (end - i)) ≡
+    k ∷ getD l i 0 ∷ getD h i 0 ∷ (i + 1 + 1) ∷ columnWords k (i + 1 + 1) (rowsFrom l h (i + 1) (end - (i + 1)))
+column-next k l h i end b = column-step k l h i end (omega arith) ∙ simp (lt-ltb (i + 1) end b)
+
+pub column-last : (k : ℕ) (l h : List ℕ) (i end : ℕ) → end ≡ i + 1 →
+    columnWords k (i + 1) (rowsFrom l h i (end - i)) ≡ k ∷ getD l i 0 ∷ getD h i 0 ∷ 0 ∷ []
+column-last k l h i end b =
+    column-step k l h i end (omega arith) ∙
+    rw (column-end k (i + 1 + 1) l h (i + 1) end (omega arith)) (simp (le-ltb (i + 1) end (omega arith)))
+
+-- a free record as one number
+pub free-parts : (N next : ℕ) → N < 65536 → partsOf (N + 65536 * 65536 * 65536 * next) ≡ N ∷ 0 ∷ 0 ∷ next ∷ []
+free-parts N next b =
+    let v = N + 65536 * 65536 * 65536 * next in
+    let w : v / 65536 ≡ 65536 * 65536 * next = omega arith in
+    let x : 65536 * 65536 * next / 65536 ≡ 65536 * next = omega arith in
+    let a0 : v % 65536 ≡ N = omega arith in
+    let a1 : 65536 * 65536 * next % 65536 ≡ 0 = omega arith in
+    let a2 : 65536 * next % 65536 ≡ 0 = omega arith in
+    let a3 : 65536 * next / 65536 ≡ next = omega arith in
+    rw (w, x, a0, a1, a2, a3)
+
+-- free record i + 1, and those after it
+pub free-next : (N i Q : ℕ) → i + 1 < Q →
+    freeWords N (i + 1) (Q - i) ≡ N ∷ 0 ∷ 0 ∷ (i + 1 + 1) ∷ freeWords N (i + 1 + 1) (Q - (i + 1))
 unfolding freeWords
 free-next N i Q b =
     let e : Q - i ≡ suc (Q - (i + 1)) = omega arith in
-    rw (link-is (i + 1) Q (Q - (i + 1)) refl, e)
+    rw e (simp (ne-eqb (Q - (i + 1)) 0 (λ z. omega arith)))
+
+pub free-last : (N i Q : ℕ) → Q ≡ i + 1 → freeWords N (i + 1) (Q - i) ≡ N ∷ 0 ∷ 0 ∷ 0 ∷ []
+unfolding freeWords
+free-last N i Q b = let e : Q - i ≡ suc 0 = omega arith in rw e
 
 pub free-end : (N r i Q : ℕ) → Q ≤ i → freeWords N r (Q - i) ≡ []
 unfolding freeWords

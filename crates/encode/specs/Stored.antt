@@ -1,8 +1,8 @@
 -- What each part of a strip is written from. Runs are counted from 0, records from 1: record i + 1 carries run i.
 -- Assumes nothing.
 use mathlib.Core.Bool.{cond}
-use mathlib.Core.List.{List}
-use Prim.Native.Nat.{ℕ, _+_, _*_, _-_, _≤_}
+use mathlib.Core.List.{List, [], _∷_}
+use Prim.Native.Nat.{ℕ, _+_, _*_, _-_, _/_, _%_, _≤_}
 use lib.Dec.{ltb}
 use lib.ListN.{length, getD}
 use Rattle.defs.specs.Computing.Test.{listFrom}
@@ -30,3 +30,7 @@ pub record FreeFit (t Q at words : ℕ) : Type 0 where
   pub order : t ≤ Q
   pub few : Q ≤ 16000
   pub room : at + 4 * (Q - t) ≤ words
+
+-- the four words that a number of 64 bits is made of, lowest first
+abbrev pub partsOf : ℕ → List ℕ
+partsOf v = v % 65536 ∷ v / 65536 % 65536 ∷ v / 65536 / 65536 % 65536 ∷ v / 65536 / 65536 / 65536 ∷ []

@@ -8,8 +8,11 @@ ghost use lib.Seq.{sets};
 ghost use Rattle.defs.specs.Computing.Words.{recordsOf, columnWords, runWords, freeWords, written};
 ghost use Rattle.tables.specs.Flat.{Flat, rowsFrom, tableOf};
 ghost use Rattle.encode.specs.Room.{Room};
-ghost use Rattle.encode.specs.Stored.{link, firstRecords, RunsFit, FreeFit};
+ghost use Rattle.encode.specs.Stored.{link, firstRecords, RunsFit, FreeFit, partsOf};
 use defs::Figures;
+
+// A word has so many values.
+const WORD: u64 = 65536;
 
 // The record of run i in a chain that ends before run `end`: record i + 1, or 0 where the chain has no run i.
 fn record_of(i: u16, end: u16) -> u16
@@ -22,7 +25,7 @@ fn record_of(i: u16, end: u16) -> u16
 }
 
 // Four words from word `at` on: a record's column, low, high and next, or the figures at the start.
-fn put_four(strip: &mut [u16], at: usize, a: u16, b: u16, c: u16, d: u16)
+pub fn put_four(strip: &mut [u16], at: usize, a: u16, b: u16, c: u16, d: u16)
     requires { ⌜ at + 4 ≤ length (now strip) ⌝ }
     ensures { λ _. ⌜ now (strip .exit) ≡ sets (now (strip .entry)) at (a ∷ b ∷ c ∷ d ∷ []) ⌝ }
 {
@@ -44,7 +47,8 @@ fn put_firsts(strip: &mut [u16], first: &[u16], n: usize)
     }
 }
 
-// The records of the runs `from` to end - 1, which are those of column k, from word `at` on.
+// The records of the runs `from` to end - 1, which are those of column k, from word `at` on. The last is put after the loop, so that
+// no record is asked whether it is the last.
 fn put_column(
     strip: &mut [u16],
     at: usize,
@@ -58,15 +62,18 @@ fn put_column(
     ensures { λ _. ⌜ now (strip .exit) ≡ sets (now (strip .entry)) at
         (columnWords k (from + 1) (rowsFrom (now (lows .entry)) (now (highs .entry)) from (end - from))) ⌝ }
 {
-    let e = end as usize;
+    if from == end {
+        return;
+    }
+    let last = end as usize - 1;
     let mut i = from as usize;
     let mut p = at;
-    while i < e {
-        let next = record_of((i + 1) as u16, end);
-        put_four(strip, p, k, lows[i], highs[i], next);
+    while i < last {
+        put_four(strip, p, k, lows[i], highs[i], (i + 2) as u16);
         p += limits::RECORD_WORDS;
         i += 1;
     }
+    put_four(strip, p, k, lows[i], highs[i], 0);
 }
 
 // The records of the runs of n columns.
@@ -87,20 +94,38 @@ fn put_records(strip: &mut [u16], first: &[u16], lows: &[u16], highs: &[u16], n:
     }
 }
 
-// The free records t + 1 to q of a strip of n columns, from word `at` on.
+// The four words that v is made of, lowest first, from word `at` on. The compiler makes one store of them.
+fn put_parts(strip: &mut [u16], at: usize, v: u64)
+    requires { ⌜ at + 4 ≤ length (now strip) ⌝ }
+    ensures { λ _. ⌜ now (strip .exit) ≡ sets (now (strip .entry)) at (partsOf v) ⌝ }
+{
+    let w = v / WORD;
+    let x = w / WORD;
+    strip[at] = (v % WORD) as u16;
+    strip[at + 1] = (w % WORD) as u16;
+    strip[at + 2] = (x % WORD) as u16;
+    strip[at + 3] = (x / WORD) as u16;
+}
+
+// The free records t + 1 to q of a strip of n columns, from word `at` on. The last is put after the loop, as in put_column, and the
+// others as one number each: the compiler then stores several records at once.
 fn put_free(strip: &mut [u16], at: usize, n: u16, t: usize, q: usize)
     requires { ⌜ FreeFit t q at (length (now strip)) ⌝ }
     ensures { λ _. ⌜ now (strip .exit) ≡ sets (now (strip .entry)) at (freeWords n (t + 1) (q - t)) ⌝ }
 {
-    let last = q as u16;
+    if t == q {
+        return;
+    }
+    let last = q - 1;
     let mut i = t;
     let mut p = at;
-    while i < q {
-        let next = record_of((i + 1) as u16, last);
-        put_four(strip, p, n, 0, 0, next);
+    while i < last {
+        let next = (i + 2) as u64;
+        put_parts(strip, p, n as u64 + WORD * WORD * WORD * next);
         p += limits::RECORD_WORDS;
         i += 1;
     }
+    put_four(strip, p, n, 0, 0, 0);
 }
 
 // The strip of these figures that holds the t runs of the table.

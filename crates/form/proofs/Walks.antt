@@ -3,7 +3,8 @@
 -- Assumes nothing.
 use mathlib.Core.Path.{_≡_, refl, ap, sym, _∙_}
 use mathlib.Core.List.{List}
-use Prim.Native.Nat.{ℕ, zero, suc, _+_, _≤_, _<_}
+use Prim.Native.Nat.{ℕ, zero, suc, _+_, _-_, _≤_, _<_}
+use native.Mathlib.Nat.{add-zero}
 use native.Mathlib.Omega.{arith}
 use native.Mathlib.Numerals.{add-one}
 use native.Mathlib.Decide.{decLt}
@@ -13,7 +14,7 @@ use lib.ListN.{getD}
 use Rattle.defs.specs.Meaning.Strip.{widthOf, columnsOf, firstOf, lowOf, highOf, nextOf, IsFree}
 use Rattle.form.specs.Form.{recAt, Within, ChainOf}
 use Rattle.form.specs.declared.Shape.{Shape}
-use Rattle.form.specs.Answers.{Sized, RunFrom, RunTo, NoRun, NoChain}
+use Rattle.form.specs.Answers.{Sized, RunFrom, RunTo, NoRun, LeadsOn, InOrder, NoChain}
 use Rattle.form.proofs.Steps.{start, step, chain-most, within-most, goes-on-at}
 
 -- the words that a chain begins with
@@ -175,3 +176,37 @@ module _ {s : List ℕ} {Q c : ℕ} where
           column = λ i h l. absurd (omega arith);
           free = λ i h l. o .frees i h;
         }
+
+  -- records in order, the first of them the chain's first
+  pub free-along : {r e : ℕ} → OnFree s Q c 0 r → InOrder s Q r e → OnFree s Q c (e - r) e
+  free-along {r} {e} o d =
+      let h : r + (e - r) ≡ e = omega (arith, d .from) in
+      rw h at (go (e - r) (omega arith))
+    where
+      go : (n : ℕ) → r + n ≤ e → OnFree s Q c n (r + n)
+      go zero l = rw add-zero o
+      go (suc n) l =
+          let x = d .each (r + n) (omega arith) (omega arith) in
+          let first : 0 < r = d .first (omega arith) in
+          let last : e ≤ Q = d .last (omega arith) in
+          rw (sym (add-one n))
+          (free-next (go n (omega arith)) (omega arith) (omega arith) (omega arith) (x .free) (omega (arith, x .next)))
+
+-- records in order: none, and one more
+pub order-none : (s : List ℕ) (Q r : ℕ) → InOrder s Q r r
+order-none s Q r =
+    record {
+      from = omega arith;
+      first = λ l. absurd (omega arith);
+      last = λ l. absurd (omega arith);
+      each = λ i l m. absurd (omega arith);
+    }
+
+pub order-more : {s : List ℕ} {Q r e : ℕ} → InOrder s Q r e → 0 < r → e < Q → LeadsOn s e → InOrder s Q r (e + 1)
+order-more o p l x =
+    record {
+      from = omega (arith, o .from);
+      first = λ m. p;
+      last = λ m. omega arith;
+      each = below-more _ _ (o .each) (λ m. x);
+    }

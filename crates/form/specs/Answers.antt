@@ -3,9 +3,9 @@
 use mathlib.Core.Path.{_≡_}
 use mathlib.Core.Bool.{false}
 use mathlib.Core.List.{List}
-use Prim.Native.Nat.{ℕ, _≤_, _<_}
+use Prim.Native.Nat.{ℕ, _+_, _≤_, _<_}
 use lib.ListN.{length}
-use Rattle.defs.specs.Meaning.Strip.{Limits, Length, widthOf, resolutionOf, columnsOf, columnOf, lowOf, highOf}
+use Rattle.defs.specs.Meaning.Strip.{Limits, Length, widthOf, resolutionOf, columnsOf, columnOf, lowOf, highOf, nextOf, IsFree}
 use Rattle.defs.specs.Computing.Words.{wellFormedb}
 use Rattle.form.specs.Form.{ChainOf}
 use Rattle.form.specs.declared.Shape.{Shape}
@@ -45,6 +45,18 @@ pub record NoRun (s : List ℕ) (Q c m r : ℕ) : Type 0 where
 abbrev pub Marks : List ℕ → ℕ → ℕ → ℕ → ℕ → Mark → Type 0
 Marks s Q c m r (High h) = RunTo s Q c m r h
 Marks s Q c m r Wrong = NoRun s Q c m r
+
+-- Record r is free, and its next is r + 1.
+pub record LeadsOn (s : List ℕ) (r : ℕ) : Type 0 where
+  pub free : IsFree s r
+  pub next : nextOf s r ≡ r + 1
+
+-- Records r to e - 1, where there are any, lead on, each to one of 1 to Q.
+pub record InOrder (s : List ℕ) (Q r e : ℕ) : Type 0 where
+  pub from : r ≤ e
+  pub first : r < e → 0 < r
+  pub last : r < e → e ≤ Q
+  pub each : (i : ℕ) → i < e → r ≤ i → LeadsOn s i
 
 pub record NoChain (s : List ℕ) (Q c : ℕ) : Type 0 where
   pub none : (k : ℕ) → ChainOf s Q c k → ⊥

@@ -7,7 +7,7 @@ ghost use lib.ListN.{length, getD};
 ghost use Rattle.defs.specs.Meaning.Strip.{wordOf, IsFree};
 ghost use Rattle.defs.specs.Computing.Words.{wellFormedb};
 ghost use Rattle.laws.proofs.Tests.{Decides};
-ghost use Rattle.form.specs.Answers.{Sized, Sizes, Marks, Chains};
+ghost use Rattle.form.specs.Answers.{Sized, Sizes, Marks, LeadsOn, InOrder, Chains};
 
 // W, N and Q of a strip.
 pub struct Shape {
@@ -32,6 +32,9 @@ pub enum Mark {
     High(usize),
     Wrong,
 }
+
+// Each word is less.
+const WORD: usize = 65536;
 
 pub fn word(s: &[u16], i: usize) -> usize
     requires { ⌜ i < length (now s) ⌝ }
@@ -110,13 +113,46 @@ fn is_free(s: &[u16], g: Shape, r: usize) -> bool
     word_of(s, g, r, limits::HIGH) == 0
 }
 
+// Is record r free, and r + 1 its next? Its four words, as one number, are compared with what they should be: one read, one branch.
+fn leads_on(s: &[u16], g: Shape, r: usize) -> bool
+    requires { ⌜ Sized (now s) g ⌝ ∗ ⌜ r ≤ g .records ⌝ }
+    ensures { λ a. ⌜ Decides a (LeadsOn (now (s .entry)) r) ⌝ }
+{
+    let column = word_of(s, g, r, limits::COLUMN);
+    let low = word_of(s, g, r, limits::LOW);
+    let high = word_of(s, g, r, limits::HIGH);
+    let next = word_of(s, g, r, limits::NEXT);
+    column + WORD * (low + WORD * (high + WORD * next))
+        == g.columns + WORD * (WORD * (WORD * (r + 1)))
+}
+
+// From r on, the first record that does not lead on; no record is 0. As encode and open write the free chain, it is passed here to its
+// last record, and no read waits for the one before, as where each record says which is read next.
+fn in_order(s: &[u16], g: Shape, r: usize) -> usize
+    requires { ⌜ Sized (now s) g ⌝ }
+    ensures { λ e. ⌜ InOrder (now (s .entry)) (g .records) r e ⌝ }
+{
+    if r < 1 {
+        return r;
+    }
+    let mut e = r;
+    while e < g.records {
+        if !leads_on(s, g, e) {
+            return e;
+        }
+        e += 1;
+    }
+    e
+}
+
 // The free chain. One of more than Q records comes to some record again, and so does not end.
 pub fn free_chain(s: &[u16], g: Shape) -> Chain
     requires { ⌜ Sized (now s) g ⌝ }
     ensures { λ a. ⌜ Chains (now (s .entry)) (g .records) (g .columns) a ⌝ }
 {
-    let mut at = word(s, limits::FIRST_FREE);
-    let mut k: usize = 0;
+    let first = word(s, limits::FIRST_FREE);
+    let mut at = in_order(s, g, first);
+    let mut k = at - first;
     while 0 < at {
         if g.records < at {
             return Chain::Broken;

@@ -1,24 +1,22 @@
 -- The empty table: laid flat it is zeros, and the strip that it is written as is one that open may leave.
 -- Assumes nothing.
-use mathlib.Core.Path.{_≡_, refl, sym, ap, ap₂, subst, _∙_}
+use mathlib.Core.Path.{_≡_, refl, sym, ap, ap₂, _∙_}
 use mathlib.Core.Bool.{true}
 use mathlib.Core.List.{List, [], _∷_}
 use Prim.Native.Nat.{ℕ, zero, suc, _+_, _<_}
 use native.Mathlib.Omega.{arith}
-use lib.ListN.{getD, replicate, length-replicate, getD-replicate}
+use lib.ListN.{getD, replicate, length-replicate}
 use Rattle.defs.specs.Computing.Test.{listFrom}
-use Rattle.defs.specs.Computing.Cells.{Rows, countRuns}
 use Rattle.defs.specs.Computing.Words.{limitsb, lengthb, recordsOf, written}
 use Rattle.defs.specs.Computing.Calls.{Left, openedStrip}
-use Rattle.geom.proofs.Stretches.{no-rows}
-use Rattle.geom.proofs.RunLists.{ApartFrom, Apart}
 use Rattle.laws.proofs.Questions.{question-3, length-decides}
 use Rattle.tables.specs.Flat.{rowsFrom, rowsIn, tableOf, Flat}
-use Rattle.tables.proofs.Written.{Writable, written-left}
+use Rattle.tables.proofs.Written.{written-left}
+use Rattle.tables.proofs.Empty.{column-none, empty-writable}
 use Rattle.encode.specs.Room.{Room}
 
 -- past the end of the list too
-zeros : (m k : ℕ) → _≡_ {A = ℕ} (getD (replicate m 0) k 0) 0
+pub zeros : (m k : ℕ) → _≡_ {A = ℕ} (getD (replicate m 0) k 0) 0
 zeros zero k = refl
 zeros (suc m) zero = refl
 zeros (suc m) (suc k) = zeros m k
@@ -43,7 +41,7 @@ unfolding listFrom
 empty-columns f k zero e = refl
 empty-columns f k (suc n) e = ap₂ _∷_ (e k) (empty-columns f (suc k) n e)
 
-empty-table : (m : ℕ) (l h : List ℕ) (N : ℕ) → tableOf (replicate m 0) l h N ≡ replicate N []
+pub empty-table : (m : ℕ) (l h : List ℕ) (N : ℕ) → tableOf (replicate m 0) l h N ≡ replicate N []
 unfolding tableOf
 empty-table m l h N = empty-columns (rowsIn (replicate m 0) l h) 0 N (empty-column m l h)
 
@@ -51,24 +49,6 @@ pub opened-is : (m : ℕ) (l h : List ℕ) (W R N words : ℕ) →
     written W R N (recordsOf N words) (tableOf (replicate m 0) l h N) ≡ openedStrip W R N words
 unfolding openedStrip
 opened-is m l h W R N words = ap (written W R N (recordsOf N words)) (empty-table m l h N)
-
-no-runs : (n : ℕ) → countRuns (replicate n []) ≡ 0
-unfolding countRuns
-no-runs zero = refl
-no-runs (suc n) = omega (arith, no-runs n)
-
-column-none : (N k : ℕ) → k < N → _≡_ {A = List Rows} (getD (replicate N []) k []) []
-column-none N k b = getD-replicate N k [] [] b
-
-empty-writable : (W N Q : ℕ) → Writable W N Q (replicate N [])
-unfolding ApartFrom
-empty-writable W N Q =
-    record {
-      long = length-replicate N [];
-      apart = λ k b. subst Apart (sym (column-none N k b)) tt;
-      below = λ k j b e. absurd (no-rows j (rw (column-none N k b) at e));
-      fits = omega (arith, no-runs N);
-    }
 
 -- what questions 3 and 4 give
 pub room-of : (W R N words : ℕ) → limitsb W R N ≡ true → lengthb N words ≡ true → Room N 0 words

@@ -27,12 +27,14 @@ pub record Tabled (f l h f' l' h' : List ℕ) (W R N Q : ℕ) : Type 0 where
   pub lows : 24001 ≤ length l'
   pub highs : 24001 ≤ length h'
 
--- the next table, where a piece is placed at p
+-- the next table, where a piece is placed at p, which is on the strip
 pub record Next (f l h f' l' h' o : List ℕ) (W R N Q : ℕ) (p : Position) : Type 0 where
   pub count : ℕ
   pub laid : Laid f' l' h' W N count
   pub few : count ≤ Q
   pub is : tableOf f' l' h' N ≡ entered W R (tableOf f l h N) o p
+  pub turn : p .turn ≤ 3
+  pub on-strip : OnStrip W R N o p
 
 abbrev pub NextIf : (f l h f' l' h' o : List ℕ) (W R N Q : ℕ) → Placing → Type 0
 NextIf f l h f' l' h' o W R N Q (Placed p) = Next f l h f' l' h' o W R N Q p

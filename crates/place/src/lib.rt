@@ -1,12 +1,22 @@
 // The place call.
 
 ghost use mathlib.Core.Path.{_≡_};
-ghost use Prim.Native.Nat.{_≤_};
+ghost use Prim.Native.Nat.{_*_, _≤_};
 ghost use lib.ListN.{length};
-ghost use Rattle.defs.specs.Computing.Calls.{cleared, PlaceStep};
+ghost use Rattle.defs.specs.Computing.Calls.{cleared, q9b, PlaceStep};
+ghost use Rattle.defs.specs.Meaning.Outline.{KeepsOrder};
+ghost use Rattle.defs.specs.Meaning.Turn.{turned};
+ghost use Rattle.defs.specs.Computing.Cells.{pieceRuns, countRuns};
+ghost use Rattle.outline.specs.Vertex.{Lent, BoundsOf};
+ghost use Rattle.cells.specs.Put.{Resolution};
+ghost use Rattle.tables.specs.Piece.{Stands};
+ghost use Rattle.best.specs.Choice.{Kept};
+ghost use Rattle.asked.proofs.InOrder.{Ordered};
 ghost use Rattle.decode.specs.Decodes.{Holds-runs};
 ghost use Rattle.place.specs.Table.{Tabled, Enterable, EntersAt, PlacedOn, Answered};
 use best::Choice;
+use best::Standing;
+use best::Way;
 use decode::Decoded;
 use defs::Figures;
 use defs::Placing;
@@ -16,7 +26,7 @@ use enter::Entering;
 use outline::Bounds;
 
 // Runs of the next table, and of a column that is being entered.
-const NEXT_RUNS: usize = 24001;
+pub const NEXT_RUNS: usize = 24001;
 
 fn refused(number: u16, ordinal: u16) -> Placing
     ensures { λ a. ⌜ a ≡ Placing.Refused (record { number = number; ordinal = ordinal }) ⌝ }
@@ -28,7 +38,7 @@ fn refused(number: u16, ordinal: u16) -> Placing
 }
 
 // "A work buffer is zero after each call."
-fn clear(work: &mut [u16])
+pub fn clear(work: &mut [u16])
     ensures { λ _. ⌜ now (work .exit) ≡ cleared (now (work .entry)) ⌝ }
 {
     let n = work.len();
@@ -37,6 +47,20 @@ fn clear(work: &mut [u16])
         work[i] = 0;
         i += 1;
     }
+}
+
+// The runs of turn t stand in the work buffer, where they were put last, or are put there. Answers how many they are.
+fn stand_runs(o: &[u16], b: Bounds, t: u16, r: u16, s: Standing, work: &mut [u16]) -> usize
+    requires { ⌜ Lent (now o) ⌝ ∗ ⌜ BoundsOf (now o) (b .left) (b .right) (b .foot) (b .head) ⌝
+        ∗ ⌜ (t ≤ 3) × (3 * countRuns (pieceRuns (now o) t r) ≤ length (now work)) ⌝ ∗ ⌜ KeepsOrder (turned (now o) t) ⌝
+        ∗ ⌜ Resolution r × Kept (now o) r (now work) (s .turn) (s .runs) ⌝ }
+    ensures { λ k. ⌜ Stands (pieceRuns (now (o .entry)) t r) (now (work .exit)) k ⌝ }
+{
+    if s.turn == t {
+        return s.runs;
+    }
+    let e = outline::extent_of(o, b, t);
+    cells::put_runs(o, b, t, r, e.w, work)
 }
 
 // Question 14 of position p; the next table has the piece entered there.
@@ -49,18 +73,19 @@ fn enter_at(
     o: &[u16],
     b: Bounds,
     p: Position,
+    s: Standing,
     work: &mut [u16],
     first2: &mut [u16],
     lows2: &mut [u16],
     highs2: &mut [u16],
 ) -> Placing
     requires { ⌜ Tabled (now first) (now lows) (now highs) (now first2) (now lows2) (now highs2) (g .width) (g .resolution) (g .columns) q ⌝
-        ∗ ⌜ Enterable (now first) (now lows) (now highs) (now o) (g .width) (g .resolution) (g .columns) (b .left) (b .right) (b .foot) (b .head) (length (now work)) p ⌝ }
+        ∗ ⌜ Enterable (now first) (now lows) (now highs) (now o) (g .width) (g .resolution) (g .columns) (b .left) (b .right) (b .foot) (b .head) (length (now work)) p ⌝
+        ∗ ⌜ Kept (now o) (g .resolution) (now work) (s .turn) (s .runs) ⌝ }
     ensures { λ a. ⌜ EntersAt (now (first .entry)) (now (lows .entry)) (now (highs .entry)) (now (first2 .exit)) (now (lows2 .exit)) (now (highs2 .exit)) (now (o .entry)) (g .width) (g .resolution) (g .columns) q p a ⌝ }
 {
-    let e = outline::extent_of(o, b, p.turn);
-    let k = cells::put_runs(o, b, p.turn, g.resolution, e.w, work);
-    let s = enter::Entry {
+    let k = stand_runs(o, b, p.turn, g.resolution, s, work);
+    let at = enter::Entry {
         columns: g.columns as usize,
         width: g.width,
         most: q,
@@ -68,14 +93,15 @@ fn enter_at(
         column: p.column as usize,
         height: p.height,
     };
-    match enter::enter(first, lows, highs, work, s, first2, lows2, highs2) {
+    match enter::enter(first, lows, highs, work, at, first2, lows2, highs2) {
         Entering::Runs(t) => Placing::Placed(p),
         Entering::Full => refused(14, 1),
     }
 }
 
-// Questions 7 to 14 on a table that holds the runs of a strip; where the piece is placed, the next table holds them after it.
-pub fn place_on(
+// Questions 11 to 14 of an outline that passes those before, on a table that holds the runs of a strip; where the piece is placed, the
+// next table holds them after it.
+pub fn place_asked(
     g: Figures,
     q: usize,
     first: &[u16],
@@ -83,22 +109,19 @@ pub fn place_on(
     highs: &[u16],
     o: &[u16],
     mask: u16,
+    way: Way,
     work: &mut [u16],
     first2: &mut [u16],
     lows2: &mut [u16],
     highs2: &mut [u16],
 ) -> Placing
-    requires { ⌜ Tabled (now first) (now lows) (now highs) (now first2) (now lows2) (now highs2) (g .width) (g .resolution) (g .columns) q ⌝ }
+    requires { ⌜ Tabled (now first) (now lows) (now highs) (now first2) (now lows2) (now highs2) (g .width) (g .resolution) (g .columns) q ⌝
+        ∗ ⌜ Ordered (now o) (q9b mask) mask ⌝ }
     ensures { λ a. ⌜ PlacedOn (now (first .entry)) (now (lows .entry)) (now (highs .entry)) (now (first2 .exit)) (now (lows2 .exit)) (now (highs2 .exit)) (now (o .entry)) (g .width) (g .resolution) (g .columns) q mask (length (now (work .entry))) a ⌝ }
 {
     let room = work.len() / 3;
-    let ninth = checks::nine(mask);
-    let no = asked::order_no(o, ninth, mask);
-    if no != 0 {
-        return refused(no, 1);
-    }
     let b = outline::bounds_of(o);
-    let s = best::best_turn(g, first, lows, highs, o, b, mask, work);
+    let s = best::best_turn(g, first, lows, highs, o, b, mask, way, work);
     if s.most == 0 {
         return refused(11, 1);
     }
@@ -106,6 +129,7 @@ pub fn place_on(
         return refused(12, 1);
     }
     let c = s.best;
+    let d = s.stands;
     match c {
         Choice::Chosen(r) => enter_at(
             g,
@@ -116,6 +140,7 @@ pub fn place_on(
             o,
             b,
             r.at,
+            d,
             work,
             first2,
             lows2,
@@ -123,6 +148,45 @@ pub fn place_on(
         ),
         Choice::Nowhere => refused(13, 1),
     }
+}
+
+// Questions 7 to 14 in the same way.
+fn place_on(
+    g: Figures,
+    q: usize,
+    first: &[u16],
+    lows: &[u16],
+    highs: &[u16],
+    o: &[u16],
+    mask: u16,
+    way: Way,
+    work: &mut [u16],
+    first2: &mut [u16],
+    lows2: &mut [u16],
+    highs2: &mut [u16],
+) -> Placing
+    requires { ⌜ Tabled (now first) (now lows) (now highs) (now first2) (now lows2) (now highs2) (g .width) (g .resolution) (g .columns) q ⌝ }
+    ensures { λ a. ⌜ PlacedOn (now (first .entry)) (now (lows .entry)) (now (highs .entry)) (now (first2 .exit)) (now (lows2 .exit)) (now (highs2 .exit)) (now (o .entry)) (g .width) (g .resolution) (g .columns) q mask (length (now (work .entry))) a ⌝ }
+{
+    let ninth = checks::nine(mask);
+    let no = asked::order_no(o, ninth, mask);
+    if no != 0 {
+        return refused(no, 1);
+    }
+    place_asked(
+        g,
+        q,
+        first,
+        lows,
+        highs,
+        o,
+        mask,
+        way,
+        work,
+        first2,
+        lows2,
+        highs2,
+    )
 }
 
 // Question 5 has passed, and the table holds the strip's runs: 7 to 14, and the piece on the strip where it is placed.
@@ -157,6 +221,7 @@ fn place_decoded(
         highs,
         o,
         mask,
+        Way::Walk,
         work,
         first2,
         lows2,

@@ -25,7 +25,7 @@ use Rattle.sheets.proofs.ListBack.{Accepted, accepted}
 abbrev said : {A : Type 0} → (Refusal → A) → A → Option Refusal → A
 said refused rest o = elim o [ some r ↦ refused r | none ↦ rest ]
 
-not-refused : {A : Type 0} {refused : Refusal → A} {rest ok : A} (o : Option Refusal) → said refused rest o ≡ ok →
+pub not-refused : {A : Type 0} {refused : Refusal → A} {rest ok : A} (o : Option Refusal) → said refused rest o ≡ ok →
     ((r : Refusal) → ¬ (refused r ≡ ok)) → (o ≡ none) × (rest ≡ ok)
 not-refused none e n = (refl, e)
 not-refused (some r) e n = absurd (n r e)

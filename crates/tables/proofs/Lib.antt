@@ -17,3 +17,4 @@ pub mod LaidFormed
 pub mod WrittenWords
 pub mod Written
 pub mod Strips
+pub mod Empty

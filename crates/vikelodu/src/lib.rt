@@ -2,11 +2,14 @@
 
 ghost use mathlib.Core.Path.{_≡_};
 ghost use Prim.Native.Nat.{_+_, _*_};
-ghost use Rattle.vikelodu.specs.Packed.{packed, refusalNumber, openNumber, coverNumber, placeNumber, OpenPacked, CoverPacked, PlacePacked};
+ghost use Rattle.vikelodu.specs.Packed.{packed, refusalNumber, openNumber, coverNumber, placeNumber, readNumber, writeNumber, layNumber, OpenPacked, CoverPacked, PlacePacked, ReadPacked, WritePacked, LayPacked};
 use defs::Covering;
+use defs::Laying;
 use defs::Opening;
 use defs::Placing;
+use defs::Reading;
 use defs::Refusal;
+use defs::Writing;
 
 fn pack(a: u16, b: u16, c: u16, d: u16) -> u64
     ensures { λ r. ⌜ r ≡ packed a b c d ⌝ }
@@ -47,6 +50,33 @@ fn pack_placing(a: Placing) -> u64
     }
 }
 
+fn pack_reading(a: Reading) -> u64
+    ensures { λ r. ⌜ r ≡ readNumber a ⌝ }
+{
+    match a {
+        Reading::Read(f) => pack(0, f.width, f.resolution, f.columns),
+        Reading::Refused(f) => pack_refusal(f),
+    }
+}
+
+fn pack_writing(a: Writing) -> u64
+    ensures { λ r. ⌜ r ≡ writeNumber a ⌝ }
+{
+    match a {
+        Writing::Written(n) => 4294967296 * (n as u64),
+        Writing::Refused(f) => pack_refusal(f),
+    }
+}
+
+fn pack_laying(a: Laying) -> u64
+    ensures { λ r. ⌜ r ≡ layNumber a ⌝ }
+{
+    match a {
+        Laying::Laid(t) => pack(0, t.placed, t.used, 0),
+        Laying::Refused(f) => pack_refusal(f),
+    }
+}
+
 // The open call.
 #[no_mangle]
 pub extern "C" fn vikelodu_open(width: u16, resolution: u16, columns: u16, strip: &mut [u16]) -> u64
@@ -82,4 +112,42 @@ pub extern "C" fn vikelodu_cover(
 {
     let a = cover::cover(outline, turn, resolution, output);
     pack_covering(a)
+}
+
+// The read call: W, R and N after the number 0.
+#[no_mangle]
+pub extern "C" fn vikelodu_read(sheet: &[u8], output: &mut [u16]) -> u64
+    ensures { λ r. ⌜ ReadPacked (now (sheet .entry)) (now (output .entry)) r (now (output .exit)) ⌝ }
+{
+    let a = reads::read(sheet, output);
+    pack_reading(a)
+}
+
+// The write call: the sheet's size in bytes in the high 32 bits.
+#[no_mangle]
+pub extern "C" fn vikelodu_write(
+    width: u16,
+    resolution: u16,
+    columns: u16,
+    list: &[u16],
+    output: &mut [u8],
+) -> u64
+    ensures { λ r. ⌜ WritePacked width resolution columns (now (list .entry)) (now (output .entry)) r (now (output .exit)) ⌝ }
+{
+    let a = writes::write(width, resolution, columns, list, output);
+    pack_writing(a)
+}
+
+// The lay call: pieces placed and used columns after the number 0.
+#[no_mangle]
+pub extern "C" fn vikelodu_lay(
+    sheet: &[u8],
+    strip: &mut [u16],
+    output: &mut [u16],
+    work: &mut [u16],
+) -> u64
+    ensures { λ r. ⌜ LayPacked (now (sheet .entry)) (now (strip .entry)) (now (output .entry)) (now (work .entry)) r (now (strip .exit)) (now (output .exit)) (now (work .exit)) ⌝ }
+{
+    let a = laying::lay(sheet, strip, output, work);
+    pack_laying(a)
 }

@@ -65,7 +65,7 @@ module _ {f l h r : List ℕ} {c k : ℕ} where
   free-more a b = record { clear = below-more _ _ (a .clear) (λ j u v o. b _ (omega arith) (omega arith) o) }
 
   -- no height is free until run k lies above run i
-  taken : {p y i : ℕ} (z : ℕ) → k < p → runLow r k < runHigh r k → getD l i 0 < getD h i 0 →
+  pub taken : {p y i : ℕ} (z : ℕ) → k < p → runLow r k < runHigh r k → getD l i 0 < getD h i 0 →
       Lowest f l h (c + runColumn r k) (y + runLow r k) (y + runHigh r k) i → y ≤ z → z + runLow r k < getD h i 0 →
       ¬ FreeTo f l h r c z p
   taken {p} {y} {i} z kp some full low yz zj free = at (decLt (z + runLow r k) (getD l i 0))
@@ -84,7 +84,7 @@ module _ {f l h r : List ℕ} {c k : ℕ} where
 pub record Below (f l h r : List ℕ) (p c y : ℕ) : Type 0 where
   pub none : (z : ℕ) → z < y → ¬ FreeTo f l h r c z p
 
-below-none : (f l h r : List ℕ) (p c : ℕ) → Below f l h r p c 0
+pub below-none : (f l h r : List ℕ) (p c : ℕ) → Below f l h r p c 0
 below-none f l h r p c = record { none = λ z a. absurd (omega arith) }
 
 -- the column in which run k of the piece lies

@@ -1,7 +1,7 @@
 //! The public calls, as include/vikelodu.h declares them. Nothing checks these
 //! declarations against the engine, so they are few and plain.
 
-use reference::{Position, Refusal};
+use reference::{Figures, Position, Refusal, Totals};
 
 mod exported {
     extern "C" {
@@ -28,6 +28,31 @@ mod exported {
             resolution: u16,
             output: *mut u16,
             output_words: usize,
+        ) -> u64;
+        pub fn vikelodu_read(
+            sheet: *const u8,
+            sheet_bytes: usize,
+            output: *mut u16,
+            output_words: usize,
+        ) -> u64;
+        pub fn vikelodu_write(
+            width: u16,
+            resolution: u16,
+            columns: u16,
+            list: *const u16,
+            list_words: usize,
+            output: *mut u8,
+            output_bytes: usize,
+        ) -> u64;
+        pub fn vikelodu_lay(
+            sheet: *const u8,
+            sheet_bytes: usize,
+            strip: *mut u16,
+            strip_words: usize,
+            output: *mut u16,
+            output_words: usize,
+            work: *mut u16,
+            work_words: usize,
         ) -> u64;
     }
 }
@@ -100,4 +125,67 @@ pub fn cover(outline: &[u16], turn: u16, r: u16, output: &mut [u16]) -> Result<u
     let answer = granted(answer)?;
     assert_eq!(word(answer, 16), 0, "more than the runs: {answer:#x}");
     Ok((answer >> 32) as u32)
+}
+
+pub fn read(sheet: &[u8], output: &mut [u16]) -> Result<Figures, Refusal> {
+    // Sound, as above.
+    let answer = unsafe {
+        exported::vikelodu_read(
+            sheet.as_ptr(),
+            sheet.len(),
+            output.as_mut_ptr(),
+            output.len(),
+        )
+    };
+    let answer = granted(answer)?;
+    Ok(Figures {
+        width: word(answer, 16),
+        resolution: word(answer, 32),
+        columns: word(answer, 48),
+    })
+}
+
+pub fn write(figures: Figures, list: &[u16], output: &mut [u8]) -> Result<u32, Refusal> {
+    // Sound, as above.
+    let answer = unsafe {
+        exported::vikelodu_write(
+            figures.width,
+            figures.resolution,
+            figures.columns,
+            list.as_ptr(),
+            list.len(),
+            output.as_mut_ptr(),
+            output.len(),
+        )
+    };
+    let answer = granted(answer)?;
+    assert_eq!(word(answer, 16), 0, "more than the size: {answer:#x}");
+    Ok((answer >> 32) as u32)
+}
+
+pub fn lay(
+    sheet: &[u8],
+    strip: &mut [u16],
+    output: &mut [u16],
+    work: &mut [u16],
+) -> Result<Totals, Refusal> {
+    // Sound, as above. The slices share nothing: three are lent to be written, the fourth to be read.
+    let answer = unsafe {
+        exported::vikelodu_lay(
+            sheet.as_ptr(),
+            sheet.len(),
+            strip.as_mut_ptr(),
+            strip.len(),
+            output.as_mut_ptr(),
+            output.len(),
+            work.as_mut_ptr(),
+            work.len(),
+        )
+    };
+    let answer = granted(answer)?;
+    assert_eq!(answer >> 48, 0, "more than the totals: {answer:#x}");
+    Ok(Totals {
+        placed: word(answer, 16),
+        used: word(answer, 32),
+    })
 }

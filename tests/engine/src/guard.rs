@@ -26,18 +26,32 @@ const PAGE: usize = 4096;
 const READ_WRITE: i32 = 3;
 const PRIVATE_ANONYMOUS: i32 = 0x22;
 
-/// Words that end where a page begins that cannot be read.
-pub struct Guarded {
-    pages: *mut c_void,
-    size: usize,
-    start: *mut u16,
-    words: usize,
+/// What a buffer holds: bytes or words.
+pub trait Unit: Copy + PartialEq {
+    /// Stands before a buffer and must stay.
+    const MARK: Self;
 }
 
-impl Guarded {
-    pub fn new(words: &[u16]) -> Guarded {
-        let pages_for_words = (2 * words.len()).div_ceil(PAGE);
-        let size = (pages_for_words + 1) * PAGE;
+impl Unit for u8 {
+    const MARK: u8 = 0xD7;
+}
+
+impl Unit for u16 {
+    const MARK: u16 = 0xD7C3;
+}
+
+/// Bytes or words that end where a page begins that cannot be read.
+pub struct Guarded<T: Unit = u16> {
+    pages: *mut c_void,
+    size: usize,
+    start: *mut T,
+    length: usize,
+}
+
+impl<T: Unit> Guarded<T> {
+    pub fn new(held: &[T]) -> Guarded<T> {
+        let pages_for_held = size_of_val(held).div_ceil(PAGE);
+        let size = (pages_for_held + 1) * PAGE;
         unsafe {
             let pages = system::mmap(
                 std::ptr::null_mut(),
@@ -48,36 +62,36 @@ impl Guarded {
                 0,
             );
             assert!(!pages.is_null() && pages as isize != -1, "no memory");
-            let end = pages.cast::<u8>().add(pages_for_words * PAGE);
+            let end = pages.cast::<u8>().add(pages_for_held * PAGE);
             assert_eq!(system::mprotect(end.cast(), PAGE, 0), 0);
-            let start = end.sub(2 * words.len()).cast::<u16>();
+            let start = end.sub(size_of_val(held)).cast::<T>();
             let guarded = Guarded {
                 pages,
                 size,
                 start,
-                words: words.len(),
+                length: held.len(),
             };
-            slice::from_raw_parts_mut(start, words.len()).copy_from_slice(words);
+            slice::from_raw_parts_mut(start, held.len()).copy_from_slice(held);
             guarded
         }
     }
 }
 
-impl Deref for Guarded {
-    type Target = [u16];
+impl<T: Unit> Deref for Guarded<T> {
+    type Target = [T];
 
-    fn deref(&self) -> &[u16] {
-        unsafe { slice::from_raw_parts(self.start, self.words) }
+    fn deref(&self) -> &[T] {
+        unsafe { slice::from_raw_parts(self.start, self.length) }
     }
 }
 
-impl DerefMut for Guarded {
-    fn deref_mut(&mut self) -> &mut [u16] {
-        unsafe { slice::from_raw_parts_mut(self.start, self.words) }
+impl<T: Unit> DerefMut for Guarded<T> {
+    fn deref_mut(&mut self) -> &mut [T] {
+        unsafe { slice::from_raw_parts_mut(self.start, self.length) }
     }
 }
 
-impl Drop for Guarded {
+impl<T: Unit> Drop for Guarded<T> {
     fn drop(&mut self) {
         unsafe {
             system::munmap(self.pages, self.size);
@@ -86,34 +100,41 @@ impl Drop for Guarded {
 }
 
 /// A place for one buffer after another, each of them directly before the same
-/// unreadable page, with words before it that must stay.
-pub struct Room {
-    pages: Guarded,
+/// unreadable page, with marks before it that must stay.
+pub struct Room<T: Unit = u16> {
+    pages: Guarded<T>,
 }
 
-/// The words watched before a buffer.
-const MARGIN: [u16; 16] = [0xD7C3; 16];
+/// The marks watched before a buffer.
+const MARGIN: usize = 16;
 
-impl Room {
-    /// For buffers of up to so many words.
-    pub fn new(most: usize) -> Room {
+impl<T: Unit> Room<T> {
+    /// For buffers of up to so many bytes or words.
+    pub fn new(most: usize) -> Room<T> {
         Room {
-            pages: Guarded::new(&vec![0; most + MARGIN.len()]),
+            pages: Guarded::new(&vec![T::MARK; most + MARGIN]),
         }
     }
 
-    /// A buffer with these words.
-    pub fn lend(&mut self, words: &[u16]) -> &mut [u16] {
-        let start = self.pages.len() - words.len();
-        self.pages[start - MARGIN.len()..start].copy_from_slice(&MARGIN);
+    /// A buffer that holds this.
+    pub fn lend(&mut self, held: &[T]) -> &mut [T] {
+        let start = self.pages.len() - held.len();
+        self.pages[start - MARGIN..start].fill(T::MARK);
         let lent = &mut self.pages[start..];
-        lent.copy_from_slice(words);
+        lent.copy_from_slice(held);
         lent
     }
 
-    /// Whether the words before a buffer of so many words stayed.
-    pub fn kept_before(&self, words: usize) -> bool {
-        let start = self.pages.len() - words;
-        self.pages[start - MARGIN.len()..start] == MARGIN
+    /// What the last buffer holds, which had this length.
+    pub fn held(&self, length: usize) -> &[T] {
+        &self.pages[self.pages.len() - length..]
+    }
+
+    /// Whether the marks before a buffer of this length stayed.
+    pub fn kept_before(&self, length: usize) -> bool {
+        let start = self.pages.len() - length;
+        self.pages[start - MARGIN..start]
+            .iter()
+            .all(|&mark| mark == T::MARK)
     }
 }

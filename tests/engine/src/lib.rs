@@ -13,7 +13,8 @@ pub mod guard;
 mod inner;
 pub mod plain;
 pub mod plain_place;
+pub mod plain_sheet;
 pub mod plain_strip;
 
-pub use calls::{cover, open, place};
+pub use calls::{cover, lay, open, place, read, write};
 pub use inner::{decoded, rewrite, well_formed};

@@ -165,6 +165,13 @@ impl Turned {
         (0..all.len()).all(|i| !all[..i].iter().any(|f| change_order(&all[i], f)))
     }
 
+    /// Whether a cell is covered: all of it as one column has a run.
+    pub fn covers_a_cell(&self) -> bool {
+        let mut rows = Vec::new();
+        column(&self.edges, &self.cuts, 0, self.extent().0, &mut rows);
+        !rows.is_empty()
+    }
+
     /// The runs (column, low, high), by column then low.
     pub fn runs(&self, r: u16) -> Vec<[u16; 3]> {
         let (w, r) = (self.extent().0, i64::from(r));

@@ -57,6 +57,11 @@ fn above(column: &[Stretch], row: u16) -> usize {
         .unwrap_or(column.len())
 }
 
+/// The allowed turns.
+fn turns_of(mask: u16) -> impl Iterator<Item = u16> {
+    (0..4).filter(move |turn| mask >> turn & 1 == 1)
+}
+
 impl Board {
     pub fn open(w: u16, r: u16, n: u16, q: usize) -> Board {
         Board {
@@ -76,6 +81,25 @@ impl Board {
     /// Questions 7 to 14, and the piece entered.
     pub fn place(&mut self, outline: &[u16], mask: u16, work: usize) -> Result<Position, Refusal> {
         let pieces = self.pieces(outline, mask)?;
+        self.place_asked(&pieces, work)
+    }
+
+    /// Questions 12 to 14 of an outline that passes those before, and the piece
+    /// entered.
+    pub fn place_sound(
+        &mut self,
+        outline: &[u16],
+        mask: u16,
+        work: usize,
+    ) -> Result<Position, Refusal> {
+        let pieces: Vec<Piece> = turns_of(mask)
+            .map(|turn| Piece::new(&Turned::new(outline, turn), turn, self.r))
+            .collect();
+        self.place_asked(&pieces, work)
+    }
+
+    /// The piece in each allowed turn, entered in the best of them.
+    fn place_asked(&mut self, pieces: &[Piece], work: usize) -> Result<Position, Refusal> {
         let most = pieces.iter().map(|piece| piece.runs.len()).max();
         if work < 3 * most.unwrap_or(0) {
             return Err(no(12, 1));
@@ -106,8 +130,7 @@ impl Board {
         if !(1..=15).contains(&mask) {
             return Err(no(9, 1));
         }
-        let turns = (0..4).filter(|turn| mask >> turn & 1 == 1);
-        let turned: Vec<(u16, Turned)> = turns
+        let turned: Vec<(u16, Turned)> = turns_of(mask)
             .map(|turn| (turn, Turned::new(outline, turn)))
             .collect();
         // Turns 0 and 2 have the same edges upside down, and so have 1 and 3: one of each two is asked.
@@ -134,30 +157,31 @@ impl Board {
         (0..=last).find_map(|c| self.least_height(piece, c, top).map(|y| (c, y)))
     }
 
-    /// From height 0, up by one jump after each clash.
+    /// From height 0, up by one jump after each clash: to the occupied run's high
+    /// less the piece run's low. Runs that stay free up to a height are not tried
+    /// again until a jump goes above it, as in the engine.
     fn least_height(&self, piece: &Piece, c: usize, top: u16) -> Option<u16> {
-        let mut y = 0;
-        while y <= top {
-            let Some(higher) = self.clash(piece, c, y) else {
-                return Some(y);
-            };
-            y = higher;
-        }
-        None
-    }
-
-    /// The first run of the piece that clashes, with the lowest occupied run that
-    /// it meets: that run's high less the piece run's low.
-    fn clash(&self, piece: &Piece, c: usize, y: u16) -> Option<u16> {
-        for (column, low, high) in piece.moved(c, y) {
-            let column = &self.columns[column];
-            if let Some(met) = column.get(above(column, low)) {
-                if met.0 < high {
-                    return Some(met.1 - (low - y));
+        let (mut y, mut stay, mut place) = (0, top, 0);
+        while let Some(&[column, low, high]) = piece.runs.get(place) {
+            let column = &self.columns[c + usize::from(column)];
+            match column.get(above(column, y + low)) {
+                Some(met) if met.0 < y + high => {
+                    y = met.1 - low;
+                    if y > top {
+                        return None;
+                    }
+                    if stay < y {
+                        (place, stay) = (0, top);
+                    }
                 }
+                Some(met) => {
+                    stay = stay.min(met.0 - high);
+                    place += 1;
+                }
+                None => place += 1,
             }
         }
-        None
+        Some(y)
     }
 
     /// The runs of the strip with the piece: two that touch become one.

@@ -107,6 +107,22 @@ fn encode(strip: &mut [u16], w: u16, r: u16, n: u16, table: &Table) {
     }
 }
 
+/// The strip with the runs of these columns, in the same order of records. Its
+/// length is right and has room for them.
+pub fn write_columns(strip: &mut [u16], columns: &[Vec<(u16, u16)>]) {
+    let mut table = Table {
+        first: Vec::with_capacity(columns.len() + 1),
+        runs: Vec::new(),
+    };
+    for column in columns {
+        table.first.push(table.runs.len() as u16);
+        table.runs.extend_from_slice(column);
+    }
+    table.first.push(table.runs.len() as u16);
+    let (w, r, n) = (strip[0], strip[1], strip[2]);
+    encode(strip, w, r, n, &table);
+}
+
 /// Whether the strip was well formed; then it is written anew.
 pub fn rewrite(strip: &mut [u16]) -> bool {
     let Some(table) = decode(strip) else {

@@ -48,6 +48,41 @@ pub fn sound_pieces(random: &mut Random, count: usize, size: u16) -> Vec<Piece> 
     pieces
 }
 
+/// A piece of just so many vertices (3 to 64) that passes questions 7 to 11:
+/// a triangle or a rectangle, some of whose vertices are said oftener.
+pub fn sound_piece_of(random: &mut Random, vertices: usize, size: u16) -> Piece {
+    let (left, bottom) = (random.word(0, size - 1), random.word(0, size - 1));
+    let (right, top) = (random.word(left + 1, size), random.word(bottom + 1, size));
+    let mut corners = vec![[left, bottom], [right, bottom], [right, top], [left, top]];
+    corners.truncate(vertices.min(random.between(3, 4) as usize));
+    while corners.len() < vertices {
+        let place = random.index(corners.len());
+        corners.insert(place, corners[place]);
+    }
+    let piece = Piece {
+        outline: corners.concat(),
+        mask: sound_mask(random),
+    };
+    assert!(is_sound(&piece.outline, piece.mask));
+    piece
+}
+
+/// Pieces that pass questions 7 to 11 and have so many vertices in all, which
+/// is 3 to 64 for each.
+pub fn sound_pieces_of(random: &mut Random, count: usize, vertices: usize) -> Vec<Piece> {
+    let mut pieces = Vec::new();
+    let mut left = vertices;
+    for others in (0..count).rev() {
+        let least = left.saturating_sub(64 * others).max(3);
+        let most = (left - 3 * others).min(64);
+        let own = random.between(least as i64, most as i64) as usize;
+        pieces.push(sound_piece_of(random, own, 6));
+        left -= own;
+    }
+    assert_eq!(left, 0);
+    pieces
+}
+
 /// One call of a list of place calls.
 #[derive(Clone, Debug)]
 pub struct PlaceCall {

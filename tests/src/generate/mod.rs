@@ -9,12 +9,13 @@ pub mod random;
 pub mod sheets;
 pub mod strips;
 
-pub use jobs::{job, place_calls, sound_pieces, Job, PlaceCall};
+pub use jobs::{job, place_calls, sound_piece_of, sound_pieces, sound_pieces_of, Job, PlaceCall};
 pub use lists::{damaged_list, damaged_list_at, sound_list, DamagedList, ListDamage};
 pub use outlines::{any_outline, any_size, outline, sound_outline, OutlineKind};
 pub use random::Random;
 pub use sheets::{
-    damaged_sheet, damaged_sheet_at, sound_sheet, DamagedSheet, SheetDamage, SheetPlan,
+    damaged_sheet, damaged_sheet_at, round_of_pieces, round_of_vertices, sound_sheet, DamagedSheet,
+    SheetDamage, SheetPlan,
 };
 pub use strips::{
     change_words, damaged_strip, empty_strip, random_runs, sound_strip, strip_with, Damage,

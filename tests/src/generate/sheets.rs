@@ -1,7 +1,7 @@
 //! Job sheets, sound and damaged.
 
 use super::lists::crossed_piece;
-use super::{outline, small_figures, sound_pieces, OutlineKind, Random};
+use super::{outline, small_figures, sound_piece_of, sound_pieces, OutlineKind, Random};
 use crate::figures::{no, Figures, Piece, Refusal};
 
 /// A record of three numbers.
@@ -85,6 +85,17 @@ impl SheetPlan {
         }
     }
 
+    /// Adds records of rubbish in no chain, so that there are so many in all.
+    pub fn fill_up(&mut self, random: &mut Random, records: usize) {
+        while self.vertices.len() + self.pieces.len() < records {
+            let rubbish = rubbish(random);
+            match random.once_in(2) {
+                true => self.vertices.push(rubbish),
+                false => self.pieces.push(rubbish),
+            }
+        }
+    }
+
     pub fn bytes(&self) -> Vec<u8> {
         let counts = [self.vertices.len() as u16, self.pieces.len() as u16];
         self.bytes_with_counts(counts)
@@ -147,12 +158,12 @@ fn add_chain(random: &mut Random, vertices: &mut Vec<Three>, outline: &[u16], sh
 
 fn add_rubbish(random: &mut Random, records: &mut Vec<Three>) {
     for _ in 0..random.index(4) {
-        records.push([
-            random.word(0, 65_535),
-            random.word(0, 65_535),
-            random.word(0, 65_535),
-        ]);
+        records.push(rubbish(random));
     }
+}
+
+fn rubbish(random: &mut Random) -> Three {
+    [0; 3].map(|_| random.word(0, 65_535))
 }
 
 /// A new number for each of the numbers 0 to `count`; 0 keeps its own.
@@ -181,6 +192,34 @@ pub fn sound_sheet(random: &mut Random) -> Vec<u8> {
     } else {
         SheetPlan::shuffled(random, figures, &pieces, true).bytes()
     }
+}
+
+/// A sheet whose piece chain comes back: after `lead` pieces it goes round in
+/// `round` of them. Where `round` is 0 it ends after the lead.
+pub fn round_of_pieces(random: &mut Random, lead: usize, round: usize) -> SheetPlan {
+    let pieces = vec![sound_pieces(random, 1, 8).remove(0); lead + round];
+    let figures = small_figures(random);
+    let mut plan = SheetPlan::shuffled(random, figures, &pieces, true);
+    let chain = plan.piece_places();
+    if round > 0 {
+        plan.pieces[chain[lead + round - 1]][2] = chain[lead] as u16 + 1;
+    }
+    plan
+}
+
+/// A sheet of up to three pieces, the vertex chain of the last of which comes
+/// back as above. The lead and the round have 3 to 64 vertices together.
+pub fn round_of_vertices(random: &mut Random, lead: usize, round: usize) -> SheetPlan {
+    let before = random.index(3);
+    let mut pieces = sound_pieces(random, before, 8);
+    pieces.push(sound_piece_of(random, lead + round, 8));
+    let figures = small_figures(random);
+    let mut plan = SheetPlan::shuffled(random, figures, &pieces, false);
+    let chain = plan.vertex_places(plan.piece_places()[before]);
+    if round > 0 {
+        plan.vertices[chain[lead + round - 1]][2] = chain[lead] as u16 + 1;
+    }
+    plan
 }
 
 /// A way in which a sheet fails one of the questions 1 to 3 and 6 to 11.

@@ -1,16 +1,22 @@
 -- An allowed turn is tried and merged; another is passed over. Assumes nothing.
 use mathlib.Core.Path.{sym, _∙_}
-use borrow.Author.Needs.{needs}
-use Rattle.best.proofs.Choices.{turn-more, turn-skipped}
+use Rattle.best.proofs.Choices.{limit-few, turn-more, turn-skipped}
 use Rattle.best.proofs.Turns.{keeps-turn}
+use borrow.Author.Needs.{needs}
 use Rattle.best.proofs.allowed_turn.Statement.{statement}
 use Rattle.best.proofs.allowed_turn.Tie as tie
 
 allows-requires : tie.Need-allows-requires
 allows-requires c κs = search needs
 
+cast-limit-of : tie.Need-cast-limit-of
+cast-limit-of c = search needs
+
+limit-of-requires : tie.Need-limit-of-requires
+limit-of-requires c κs = search needs
+
 try-turn-requires : tie.Need-try-turn-requires
-try-turn-requires c κs = (c .before .before .before .before .before .before .before .before .pre .0, (c .before .before .before .before .before .before .before .before .pre .1 .0, keeps-turn _ _ _ (c .before .before .before .before .before .before .before .before .pre .1 .0) (c .before .before .before .before .before .before .before .before .pre .1 .1 .0) (c .before .before .allows .ensures) (c .before .if1 .taken)))
+try-turn-requires c κs = (c .before .before .before .before .before .before .before .before .before .before .pre .0, (c .before .before .before .before .before .before .before .before .before .before .pre .1 .0, (keeps-turn _ _ _ (c .before .before .before .before .before .before .before .before .before .before .pre .1 .0) (c .before .before .before .before .before .before .before .before .before .before .pre .1 .1 .0) (c .before .before .before .before .allows .ensures) (c .before .before .before .if1 .taken), rw (c .before .limit-of .ensures) (limit-few (c .before .before .before .before .before .before .before .before .before .before .args .s .best) _))))
 
 merge-requires : tie.Need-merge-requires
 merge-requires c κs = search needs
@@ -19,12 +25,20 @@ same-length : tie.Need-same-length
 same-length c = search needs
 
 returns : tie.Need-returns
-returns c = rw (c .merge .ensures) (turn-more (c .before .before .before .before .before .before .before .before .before .before .before .before .pre .1 .1 .1) (sym (c .before .before .before .before .before .before .allows .ensures) ∙ c .before .before .before .before .before .if1 .taken) (c .before .before .before .try-turn .ensures))
+returns c = rw (c .merge .ensures) (turn-more (c .before .before .before .before .before .before .before .before .before .before .before .before .before .before .pre .1 .1 .1 .0) (sym (c .before .before .before .before .before .before .before .before .allows .ensures) ∙ c .before .before .before .before .before .before .before .if1 .taken) (c .before .before .before .before .before .limit-of .ensures) (c .before .before .before .try-turn .ensures .0), c .before .before .before .try-turn .ensures .1)
 
 returns-2 : tie.Need-returns-2
-returns-2 c = turn-skipped (c .before .before .before .before .before .before .before .pre .1 .1 .1) (sym (c .before .allows .ensures) ∙ c .if1 .left)
+returns-2 c = (turn-skipped (c .before .before .before .before .before .before .before .pre .1 .1 .1 .0) (sym (c .before .allows .ensures) ∙ c .if1 .left), c .before .before .before .before .before .before .before .pre .1 .1 .1 .1)
 
 pub allowed-turn-spec : {M : Type 1} → statement M
 allowed-turn-spec =
     tie.close
-    (tie.spec allows-requires try-turn-requires merge-requires same-length returns returns-2)
+    (tie.spec
+    allows-requires
+    cast-limit-of
+    limit-of-requires
+    try-turn-requires
+    merge-requires
+    same-length
+    returns
+    returns-2)

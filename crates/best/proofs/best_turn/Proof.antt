@@ -5,25 +5,26 @@ use native.Mathlib.Omega.{arith}
 use lib.ListN.{length}
 use borrow.Author.Needs.{needs}
 use Rattle.tables.specs.Flat.{tableOf}
-use Rattle.best.specs.Choice.{TurnsTo}
-use Rattle.best.proofs.Choices.{no-turns, all-turns}
+use Rattle.best.specs.Choice.{TurnsTo, Kept}
+use Rattle.best.proofs.Choices.{no-turns, none-kept, all-turns}
 use Rattle.best.proofs.best_turn.Statement.{statement}
 use Rattle.best.proofs.best_turn.Tie as tie
 
 abbrev Inv-loop : tie.InvT-loop
-Inv-loop g first lows highs o b mask work₀ s₀ t₀ work s t =
+Inv-loop g first lows highs o b mask way work₀ s₀ t₀ work s t =
     (t ≤ 4) × (length work ≡ length work₀) ×
-    TurnsTo (g .width) (g .resolution) (g .columns) (tableOf first lows highs (g .columns)) o mask t (length work₀) s
+    TurnsTo (g .width) (g .resolution) (g .columns) (tableOf first lows highs (g .columns)) o mask t (length work₀) s ×
+    Kept o (g .resolution) work (s .stands .turn) (s .stands .runs)
 
 abbrev μ-loop : tie.MeasureT-loop
-μ-loop g first lows highs o b mask work₀ s₀ t₀ work s t = 4 - t
+μ-loop g first lows highs o b mask way work₀ s₀ t₀ work s t = 4 - t
 
 loop-holds : tie.Need-loop-holds Inv-loop μ-loop
-loop-holds c = (omega arith, refl, no-turns _ _ _ _ _ _ _)
+loop-holds c = (omega arith, refl, no-turns _ _ _ _ _ _ _, none-kept _ _ _)
 
 allowed-turn-requires : tie.Need-allowed-turn-requires Inv-loop μ-loop
 allowed-turn-requires c κs =
-    (c .before .before .before .before .before .before .before .before .pre .0, (omega (arith, c .before .loop-test .taken), (c .before .before .before .before .before .before .before .before .pre .1, rw (c .before .before .loop .inv .1) (c .before .before .loop .inv .2))))
+    (c .before .before .before .before .before .before .before .before .pre .0, (omega (arith, c .before .loop-test .taken), (c .before .before .before .before .before .before .before .before .pre .1, (rw (c .before .before .loop .inv .1) (c .before .before .loop .inv .2), c .before .before .loop .inv .3))))
 
 add-t : tie.Need-add-t Inv-loop μ-loop
 add-t c = search needs
@@ -33,13 +34,13 @@ loop-less c = search needs
 
 loop-again : tie.Need-loop-again Inv-loop μ-loop
 loop-again c =
-    (omega (arith, c .before .before .before .before .loop-test .taken), search needs, rw (c .before .before .before .before .before .loop .inv .1) at (c .before .before .allowed-turn .ensures))
+    (omega (arith, c .before .before .before .before .loop-test .taken), search needs, rw (c .before .before .before .before .before .loop .inv .1) at (c .before .before .allowed-turn .ensures .0), c .before .before .allowed-turn .ensures .1)
 
 same-length : tie.Need-same-length Inv-loop μ-loop
 same-length c = search needs
 
 returns : tie.Need-returns Inv-loop μ-loop
-returns c = all-turns (c .before .loop .inv .0) (c .loop-test .left) (c .before .loop .inv .2)
+returns c = (all-turns (c .before .loop .inv .0) (c .loop-test .left) (c .before .loop .inv .2), c .before .loop .inv .3)
 
 pub best-turn-spec : {M : Type 1} → statement M
 best-turn-spec =

@@ -5,21 +5,28 @@ use Prim.Native.Nat.{_-_}
 use native.Mathlib.Omega.{arith}
 use borrow.Author.Tests.{not-true, not-false}
 use borrow.Author.Needs.{needs}
-use Rattle.form.proofs.Walks.{OnFree, free-start, free-past, free-long, free-wrong, free-next, free-end}
+use Rattle.form.proofs.Walks.{OnFree, free-start, free-past, free-long, free-wrong, free-next, free-along, free-end}
 use Rattle.form.proofs.free_chain.Statement.{statement}
 use Rattle.form.proofs.free_chain.Tie as tie
 
 abbrev Inv-loop : tie.InvT-loop
-Inv-loop s g at₀ k₀ at k = OnFree s (g .records) (g .columns) k at
+Inv-loop s g first at₀ k₀ at k = OnFree s (g .records) (g .columns) k at
 
 abbrev μ-loop : tie.MeasureT-loop
-μ-loop s g at₀ k₀ at k = g .records - k
+μ-loop s g first at₀ k₀ at k = g .records - k
 
 word-requires : tie.Need-word-requires Inv-loop μ-loop
 word-requires c κs = search needs
 
+in-order-requires : tie.Need-in-order-requires Inv-loop μ-loop
+in-order-requires c κs = search needs
+
+sub-k : tie.Need-sub-k Inv-loop μ-loop
+sub-k c = search needs
+
 loop-holds : tie.Need-loop-holds Inv-loop μ-loop
-loop-holds c = free-start (c .before .before .pre) (c .word .ensures .0)
+loop-holds c =
+    free-along (free-start (c .before .before .before .pre) (c .before .word .ensures .0)) (c .in-order .ensures)
 
 returns : tie.Need-returns Inv-loop μ-loop
 returns c = free-past (c .before .before .before .loop .inv) (omega arith) (omega arith)
@@ -34,7 +41,7 @@ returns-3 : tie.Need-returns-3 Inv-loop μ-loop
 returns-3 c =
     let f = c .before .is-free .ensures in
     free-wrong (c .before .before .before .before .before .before .before .loop .inv)
-    (c .before .before .before .before .before .before .before .before .before .before .pre .columns) (omega arith)
+    (c .before .before .before .before .before .before .before .before .before .before .before .pre .columns) (omega arith)
     (λ x. false≢true (sym (not-true _ (c .if3 .taken)) ∙ f .1 x))
 
 add-k : tie.Need-add-k Inv-loop μ-loop
@@ -53,7 +60,7 @@ loop-again c =
     (omega arith) f (c .word-of .ensures .0)
 
 returns-4 : tie.Need-returns-4 Inv-loop μ-loop
-returns-4 c = free-end (c .before .loop .inv) (c .before .before .before .before .pre .columns) (omega arith)
+returns-4 c = free-end (c .before .loop .inv) (c .before .before .before .before .before .pre .columns) (omega arith)
 
 pub free-chain-spec : {M : Type 1} → statement M
 free-chain-spec =
@@ -62,6 +69,8 @@ free-chain-spec =
     Inv-loop
     μ-loop
     word-requires
+    in-order-requires
+    sub-k
     loop-holds
     returns
     returns-2

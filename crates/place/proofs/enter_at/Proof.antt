@@ -1,14 +1,12 @@
--- The runs of the position's turn are put into the work buffer and entered. Assumes nothing.
-use borrow.Author.Needs.{needs}
+-- The runs of the position's turn stand in the work buffer, and are entered. Assumes nothing.
 use Rattle.place.proofs.Entries.{old, fits, placed, full}
+use borrow.Author.Needs.{needs}
 use Rattle.place.proofs.enter_at.Statement.{statement}
 use Rattle.place.proofs.enter_at.Tie as tie
 
-extent-of-requires : tie.Need-extent-of-requires
-extent-of-requires c κs = search needs
-
-put-runs-requires : tie.Need-put-runs-requires
-put-runs-requires c κs = search needs
+stand-runs-requires : tie.Need-stand-runs-requires
+stand-runs-requires c κs = let at = c .before .before .before .before .before .before .before .before .before .pre .1 .0 in let r = c .before .before .before .before .before .before .before .before .before .pre .0 .limits .resolution in
+    (at .lent, (at .bounds, ((at .turn, at .room), (at .keeps, (record { least = r .at-least; most = r .at-most }, c .before .before .before .before .before .before .before .before .before .pre .1 .1)))))
 
 cast-t19 : tie.Need-cast-t19
 cast-t19 c = search needs
@@ -17,13 +15,10 @@ cast-t20 : tie.Need-cast-t20
 cast-t20 c = search needs
 
 enter-requires : tie.Need-enter-requires
-enter-requires c κs = (
-  old (c .before .before .before .before .before .before .before .before .before .before .before .before .before .before .before .before .before .before .before .args .p) (c .before .before .before .before .before .before .before .before .before .before .before .before .before .before .before .before .before .before .before .pre .0) (c .before .before .before .before .before .before .before .before .before .before .before .before .before .before .before .before .before .before .before .pre .1) (c .before .before .before .before .before .before .before .before .put-runs .ensures),
-  (
-    fits (c .before .before .before .before .before .before .before .before .before .before .before .before .before .before .before .before .before .before .before .args .p) (c .before .before .before .before .before .before .before .before .before .before .before .before .before .before .before .before .before .before .before .pre .0) (c .before .before .before .before .before .before .before .before .before .before .before .before .before .before .before .before .before .before .before .pre .1) (c .before .before .before .before .before .before .before .before .put-runs .ensures),
-    (c .before .before .before .before .before .before .before .before .before .before .before .before .before .before .before .before .before .before .before .pre .0 .firsts, c .before .before .before .before .before .before .before .before .before .before .before .before .before .before .before .before .before .before .before .pre .0 .lows, c .before .before .before .before .before .before .before .before .before .before .before .before .before .before .before .before .before .before .before .pre .0 .highs),
-  ),
-)
+enter-requires c κs =
+    let tabled = c .before .before .before .before .before .before .before .before .before .before .before .before .before .before .before .before .before .before .pre .0 in
+    let at = c .before .before .before .before .before .before .before .before .before .before .before .before .before .before .before .before .before .before .pre .1 .0 in
+    (old (c .before .before .before .before .before .before .before .before .before .before .before .before .before .before .before .before .before .before .args .p) tabled at (c .before .before .before .before .before .before .before .before .stand-runs .ensures), (fits (c .before .before .before .before .before .before .before .before .before .before .before .before .before .before .before .before .before .before .args .p) tabled at (c .before .before .before .before .before .before .before .before .stand-runs .ensures), (tabled .firsts, tabled .lows, tabled .highs)))
 
 enum-known-t : tie.Need-enum-known-t
 enum-known-t c = search needs
@@ -47,8 +42,7 @@ same-length-4 : tie.Need-same-length-4
 same-length-4 c = search needs
 
 returns : tie.Need-returns
-returns c =
-    placed (c .before .before .before .before .before .before .before .before .before .before .before .before .before .before .before .before .before .before .before .before .before .before .before .before .before .before .before .before .before .args .p) (c .before .before .before .before .before .before .before .before .before .before .before .before .before .before .before .before .before .before .before .before .before .before .before .before .before .before .before .before .before .pre .0) (c .before .before .before .before .before .before .before .before .before .before .before .before .before .before .before .before .before .before .before .before .before .before .before .before .before .before .before .before .before .pre .1) (c .before .before .before .before .before .before .before .before .before .before .before .before .before .before .before .before .before .before .put-runs .ensures) (rw (c .before .t .given .1) at (c .before .before .before .before .before .before .before .before .before .enter .ensures))
+returns c = placed (c .before .before .before .before .before .before .before .before .before .before .before .before .before .before .before .before .before .before .before .before .before .before .before .before .before .before .before .before .args .p) (c .before .before .before .before .before .before .before .before .before .before .before .before .before .before .before .before .before .before .before .before .before .before .before .before .before .before .before .before .pre .0) (c .before .before .before .before .before .before .before .before .before .before .before .before .before .before .before .before .before .before .before .before .before .before .before .before .before .before .before .before .pre .1 .0) (c .before .before .before .before .before .before .before .before .before .before .before .before .before .before .before .before .before .before .stand-runs .ensures) (rw (c .before .t .given .1) at (c .before .before .before .before .before .before .before .before .before .enter .ensures))
 
 same-length-5 : tie.Need-same-length-5
 same-length-5 c = search needs
@@ -63,15 +57,13 @@ same-length-8 : tie.Need-same-length-8
 same-length-8 c = search needs
 
 returns-2 : tie.Need-returns-2
-returns-2 c =
-    full (c .before .before .before .before .before .before .before .before .before .before .before .before .before .before .before .before .before .before .before .before .before .before .before .before .before .before .before .before .before .args .p) (c .before .before .before .before .before .before .before .before .before .before .before .before .before .before .before .before .before .before .before .before .before .before .before .before .before .before .before .before .before .pre .0) (c .before .before .before .before .before .before .before .before .before .before .before .before .before .before .before .before .before .before .before .before .before .before .before .before .before .before .before .before .before .pre .1) (c .before .before .before .before .before .before .before .before .before .before .before .before .before .before .before .before .before .before .put-runs .ensures) (rw (c .before .enum-told .given .1) at (c .before .before .before .before .before .before .before .before .before .enter .ensures)) (c .refused .ensures)
+returns-2 c = full (c .before .before .before .before .before .before .before .before .before .before .before .before .before .before .before .before .before .before .before .before .before .before .before .before .before .before .before .before .args .p) (c .before .before .before .before .before .before .before .before .before .before .before .before .before .before .before .before .before .before .before .before .before .before .before .before .before .before .before .before .pre .0) (c .before .before .before .before .before .before .before .before .before .before .before .before .before .before .before .before .before .before .before .before .before .before .before .before .before .before .before .before .pre .1 .0) (c .before .before .before .before .before .before .before .before .before .before .before .before .before .before .before .before .before .before .stand-runs .ensures) (rw (c .before .enum-told .given .1) at (c .before .before .before .before .before .before .before .before .before .enter .ensures)) (c .refused .ensures)
 
 pub enter-at-spec : {M : Type 1} → statement M
 enter-at-spec =
     tie.close
     (tie.spec
-    extent-of-requires
-    put-runs-requires
+    stand-runs-requires
     cast-t19
     cast-t20
     enter-requires

@@ -1,10 +1,13 @@
 //! Times of whole lists of place calls, open included, beside those of a plain
 //! Rust program with the same walk on the same pieces, in one run, and how the time
 //! grows from the first quarter of the list to the last. The strip is lent to the
-//! engine at each call; the plain program keeps its own form of it.
+//! engine at each call; the plain program keeps its own form of it. A second row of
+//! times is that of a plain program which, like the engine, asks question 5 of the
+//! strip's words at each call and writes them anew: beside its own form, from which
+//! it is spared to make its columns.
 
-use engine::data;
 use engine::plain_place::Board;
+use engine::{data, plain_strip};
 use reference::generate::outlines::is_sound;
 use reference::generate::Random;
 use reference::{Position, Refusal};
@@ -61,12 +64,27 @@ fn by_plain(list: &List) -> (Laid, Board) {
     (laid, board)
 }
 
-/// The rounds of the two take turns, so that what else the machine does falls on
-/// both; the least time of each quarter counts.
+fn by_plain_on_words(list: &List, strip: &mut [u16]) -> Laid {
+    let start = Instant::now();
+    assert!(plain_strip::open(WIDTH, list.r, list.n, strip));
+    let mut board = Board::open(WIDTH, list.r, list.n, list.q);
+    laid(list, start, |outline| {
+        assert!(plain_strip::decode(strip).is_some());
+        let answer = board.place(outline, list.mask, WORK);
+        if answer.is_ok() {
+            plain_strip::write_columns(strip, board.columns());
+        }
+        answer
+    })
+}
+
+/// The rounds of the programs take turns, so that what else the machine does falls on
+/// all; the least time of each quarter counts.
 fn row(name: &str, list: &List) {
     let mut strip = vec![0; 4 + usize::from(list.n) + 4 * list.q];
     let mut work = vec![0; WORK];
-    let (mut engine, mut plain) = ([f64::MAX; 4], [f64::MAX; 4]);
+    let mut words = strip.clone();
+    let (mut engine, mut plain, mut on_words) = ([f64::MAX; 4], [f64::MAX; 4], [f64::MAX; 4]);
     let mut placed = 0;
     let start = Instant::now();
     let mut rounds = 0;
@@ -75,16 +93,20 @@ fn row(name: &str, list: &List) {
         let (theirs, board) = by_plain(list);
         assert_eq!(ours.answers, theirs.answers);
         assert!(reference::strip_runs(&strip) == board.columns());
+        let third = by_plain_on_words(list, &mut words);
+        assert!(third.answers == ours.answers && words == strip);
         placed = ours.answers.iter().filter(|answer| answer.is_ok()).count();
         for quarter in 0..4 {
             engine[quarter] = engine[quarter].min(ours.quarters[quarter]);
             plain[quarter] = plain[quarter].min(theirs.quarters[quarter]);
+            on_words[quarter] = on_words[quarter].min(third.quarters[quarter]);
         }
         rounds += 1;
     }
-    let (ours, theirs): (f64, f64) = (engine.iter().sum(), plain.iter().sum());
+    let sum = |quarters: [f64; 4]| -> f64 { quarters.iter().sum() };
+    let (ours, theirs, third) = (sum(engine), sum(plain), sum(on_words));
     println!(
-        "{name:9} R {:3} mask {:2}  N {:4} Q {:5}  placed {placed:3} of {:3}  engine {:9.0} us  plain {:9.0} us  ratio {:.2}",
+        "{name:9} R {:3} mask {:2}  N {:4} Q {:5}  placed {placed:3} of {:3}  engine {:9.0} us  plain {:9.0} us  ratio {:.2}  on words {:9.0} us  ratio {:.2}",
         list.r,
         list.mask,
         list.n,
@@ -92,11 +114,14 @@ fn row(name: &str, list: &List) {
         list.outlines.len(),
         ours,
         theirs,
-        ours / theirs
+        ours / theirs,
+        third,
+        ours / third
     );
     let times = |quarters: [f64; 4]| quarters.map(|time| format!("{time:8.0}")).join(" ");
     println!("    quarters  engine {}", times(engine));
     println!("              plain  {}", times(plain));
+    println!("           on words  {}", times(on_words));
 }
 
 /// Outlines that pass questions 7 to 11 with every mask, in any order.

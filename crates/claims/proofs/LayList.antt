@@ -1,0 +1,189 @@
+-- Lay is one list of place calls, and its totals and output are those of the list. So demand 3 holds of every laid job.
+-- Assumes nothing.
+use mathlib.Core.Path.{_≡_, refl, sym, ap, _∙_}
+use mathlib.Core.Bool.{Bool, true}
+use mathlib.Core.Option.{none}
+use mathlib.Core.List.{List, []}
+use Prim.Native.Nat.{ℕ, _+_, _*_, _<_}
+use native.Mathlib.Omega.{arith}
+use lib.Dec.{leb}
+use lib.ListN.{length, getD, replicate}
+use Rattle.defs.specs.declared.Refusal.{Refusal}
+use Rattle.defs.specs.declared.Fate.{Fate}
+use Rattle.defs.specs.declared.Entry.{Entry}
+use Rattle.defs.specs.declared.Totals.{Totals}
+use Rattle.defs.specs.declared.Opening.the-variants.{Opened}
+use Rattle.defs.specs.declared.Laying.the-variants.{Laid, Refused as NotLaid}
+use Rattle.defs.specs.Answer.{fateWords}
+use Rattle.defs.specs.Meaning.Sheet.{Piece, sheetW, sheetR, sheetN}
+use Rattle.defs.specs.Meaning.Job.{Used, CountPlaced}
+use Rattle.defs.specs.Computing.Cells.{Rows}
+use Rattle.defs.specs.Computing.Words.{limitsb, lengthb, recordsOf}
+use Rattle.defs.specs.Computing.Calls.{refusal, cleared, openAnswer, Left, OpenLeaves, OpenStep}
+use Rattle.defs.specs.Computing.Sheets.{q1b, q2b, sheetNo, pieceRecords, sheetPieces}
+use Rattle.defs.specs.Computing.Lay.{fateOf, placedIn, usedIn, layEntries, layAnswer, layOutput, LayLeaves, LayStep}
+use Rattle.laws.proofs.Questions.{question-3, length-decides}
+use Rattle.sheets.proofs.Asking.{asked, some-none}
+use Rattle.sheets.proofs.Passing.{Held, none-held}
+use Rattle.sheets.proofs.Answers.{not-refused}
+use Rattle.tables.proofs.Empty.{column-none, empty-writable}
+use Rattle.claims.specs.Trace.{Call, Trace}
+use Rattle.claims.specs.Demand3.{Demand3-holds}
+use Rattle.claims.specs.Laying.{LaysList, Lay-is-a-list, Lay-demand3}
+use Rattle.claims.proofs.Whole.{demand3-holds}
+use Rattle.claims.proofs.LayTotals.{pieceAt, fateAt, placed-counted, used-reached, entries-words}
+use Rattle.claims.proofs.LayStrips.{answerAt, length-entries, fates-are, Strips, strips}
+
+-- a granted lay has passed 4, and the other questions of its sheet
+fourth : (b : List ℕ) (t : Bool) → sheetNo b t ≡ none → t ≡ true
+unfolding sheetNo
+fourth b t e =
+    let e1 = asked (q1b b) _ e some-none in
+    let e2 = asked (q2b b) _ (e1 .1) some-none in
+    let e3 = asked (limitsb (sheetW b) (sheetR b) (sheetN b)) _ (e2 .1) some-none in
+    asked t _ (e3 .1) some-none .0
+
+lay-refused : {t : Totals} (r : Refusal) → ¬ (NotLaid r ≡ Laid t)
+lay-refused r e = let z : _≡_ {A = ℕ} 0 1 = cc in omega arith
+
+same-totals : {t u : Totals} → Laid t ≡ Laid u → t ≡ u
+same-totals e = cc
+
+record LayGranted (b : List ℕ) (strip work : ℕ) (t : Totals) : Type 0 where
+  held : Held b
+  long : lengthb (sheetN b) strip ≡ true
+  totals :
+      t ≡
+      record {
+        placed = placedIn (layEntries b strip work);
+        used = usedIn (sheetR b) (sheetPieces b) (layEntries b strip work);
+      }
+
+lay-granted : (b : List ℕ) (strip out work : ℕ) (t : Totals) → Laid t ≡ layAnswer b strip out work → LayGranted b strip work t
+unfolding layAnswer
+lay-granted b strip out work t e =
+    let h = not-refused (sheetNo b (lengthb (sheetN b) strip)) (sym e) lay-refused in
+    let four = fourth b (lengthb (sheetN b) strip) (h .0) in
+    let e15 = asked (leb (4 * length (pieceRecords b)) out) _ (h .1) (lay-refused (refusal 15 0)) in
+    record {
+      held = none-held b (rw four at (h .0));
+      long = four;
+      totals = sym (same-totals (e15 .1));
+    }
+
+-- an opened strip is one with the empty table
+opened-step : (W R N : ℕ) (s s' : List ℕ) → limitsb W R N ≡ true → lengthb N (length s) ≡ true →
+    Left W R N (length s) (λ k. getD (replicate N []) k []) s' → OpenStep W R N s Opened s'
+unfolding openAnswer OpenLeaves
+opened-step W R N s s' three four l =
+    record {
+      answer = rw (three, four) refl;
+      strip =
+          record {
+            well-formed = l .well-formed;
+            long = l .long;
+            width = l .width;
+            resolution = l .resolution;
+            columns = l .columns;
+            holds = λ k h. l .holds k h ∙ column-none N k h;
+          };
+    }
+
+module _ {b s out work : List ℕ} {t : Totals} {s' out' work' : List ℕ} (x : LayStep b s out work (Laid t) s' out' work') where
+  abbrev W : ℕ
+  W = sheetW b
+
+  abbrev R : ℕ
+  R = sheetR b
+
+  abbrev N : ℕ
+  N = sheetN b
+
+  abbrev Q : ℕ
+  Q = recordsOf N (length s)
+
+  abbrev ps : List Piece
+  ps = sheetPieces b
+
+  abbrev empty : List (List Rows)
+  empty = replicate N []
+
+  abbrev entries : List Entry
+  entries = layEntries b (length s) (length work)
+
+  given : LayGranted b (length s) (length work) t
+  given = lay-granted b (length s) (length out) (length work) t (x .answer)
+
+  between : Strips W R N Q (length s) work empty ps s'
+  unfolding LayLeaves
+  between =
+      strips (given .held .holds .q3) (length-decides N (length s) .0 (given .long)) work empty ps s' (empty-writable W N Q)
+      (x .strip)
+
+  abbrev call : ℕ → Call
+  call m =
+      record {
+        outline = pieceAt ps m .outline;
+        mask = pieceAt ps m .mask;
+        work = work;
+        answer = answerAt W R N Q (length work) empty ps m;
+        work-after = cleared work;
+      }
+
+  abbrev trace : Trace W R N
+  trace =
+      record {
+        lent = s;
+        count = length ps;
+        call = call;
+        strip = between .strip;
+        open-step =
+            opened-step W R N s (between .strip 0) (question-3 W R N .1 (given .held .holds .q3)) (given .long) (between .first);
+        place-step = between .step;
+      }
+
+  entries-long : length entries ≡ length ps
+  unfolding layEntries
+  entries-long = length-entries W R N Q (length work) 1 empty ps
+
+  fates : fateAt entries ≡ λ m. fateOf (call m .answer)
+  unfolding layEntries
+  fates = λ i m. fates-are W R N Q (length work) 1 empty ps m i
+
+  output : (m i : ℕ) → m < length ps → i < 4 → getD out' (4 * m + i) 0 ≡ getD (fateWords (fateOf (call m .answer))) i 0
+  unfolding layOutput
+  output m i h l =
+      ap (λ (w : List ℕ). getD w (4 * m + i) 0) (x .output) ∙
+      entries-words entries _ m i (omega (arith, entries-long)) l ∙
+      ap (λ (f : ℕ → Fate). getD (fateWords (f m)) i 0) fates
+
+  used : Used R (λ m. call m .outline) (λ m. fateOf (call m .answer)) (length ps) (t .used)
+  used = rw (given .totals, ← fates) (used-reached R ps entries entries-long)
+
+  placed : CountPlaced (λ m. fateOf (call m .answer)) (length ps) (t .placed)
+  placed = rw (given .totals, ← fates, ← entries-long) (placed-counted entries)
+
+  lays-list : LaysList b s t s' out' work
+  lays-list =
+      record {
+        pieces = ps;
+        sheet = given .held .holds;
+        list = trace;
+        opens = refl;
+        all-of-them = refl;
+        outlines = λ m h. refl;
+        masks = λ m h. refl;
+        works = λ m h. refl;
+        leaves = between .last;
+        output = output;
+        used = used;
+        placed = placed;
+      }
+
+pub lay-is-a-list : Lay-is-a-list
+unfolding Lay-is-a-list
+lay-is-a-list b s out work t s' out' work' x = lays-list x
+
+pub lay-demand3 : Lay-demand3
+unfolding Lay-demand3 Demand3-holds
+lay-demand3 b s out work t s' out' work' x = (lays-list x, demand3-holds _ _ _ (lays-list x .list))

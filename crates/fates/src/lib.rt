@@ -1,0 +1,84 @@
+// A piece's fate in a job: its entry in the output, and what it adds to the job's totals.
+
+ghost use mathlib.Core.Path.{_≡_};
+ghost use Prim.Native.Nat.{_*_, _-_, _≤_};
+ghost use lib.ListN.{length};
+ghost use lib.Seq.{sets};
+ghost use Rattle.defs.specs.declared.Position.{Position};
+ghost use Rattle.defs.specs.Answer.{fateWords};
+ghost use Rattle.defs.specs.Meaning.Placing.{endColumn};
+ghost use Rattle.defs.specs.Computing.Lay.{fateOf};
+ghost use Rattle.outline.specs.Vertex.{Lent};
+ghost use Rattle.fates.specs.Fates.{endOf, tallied, Few};
+use defs::Entry;
+use defs::Fate;
+use defs::Placing;
+
+// Words of an entry.
+pub const ENTRY_WORDS: usize = 4;
+
+// The ordinal of the next piece, the pieces placed and the columns used so far, and whether the second table is current.
+pub struct Tally {
+    pub ordinal: u16,
+    pub placed: u16,
+    pub used: u16,
+    pub second: bool,
+}
+
+pub fn fate_of(a: Placing) -> Fate
+    ensures { λ f. ⌜ f ≡ fateOf a ⌝ }
+{
+    match a {
+        Placing::Placed(p) => Fate::Placed(p),
+        Placing::Refused(r) => Fate::Refused(r.number),
+    }
+}
+
+// "Output is four words a piece: 0 or its number, turn, column, height (zeros if refused)."
+pub fn put_entry(e: Entry, out: &mut [u16])
+    requires { ⌜ (1 ≤ e .ordinal) × (4 * e .ordinal ≤ length (now out)) ⌝ }
+    ensures { λ _. ⌜ now (out .exit) ≡ sets (now (out .entry)) (4 * (e .ordinal - 1)) (fateWords (e .fate)) ⌝ }
+{
+    let at = ENTRY_WORDS * (e.ordinal as usize - 1);
+    let f = e.fate;
+    match f {
+        Fate::Placed(p) => encode::put_four(out, at, 0, p.turn, p.column, p.height),
+        Fate::Refused(n) => encode::put_four(out, at, n, 0, 0, 0),
+    }
+}
+
+// One more than the last column of a piece that is placed, else 0.
+pub fn end_of(o: &[u16], r: u16, a: Placing) -> usize
+    requires { ⌜ Lent (now o) ⌝ ∗ ⌜ 1 ≤ r ⌝ ∗ ⌜ ((p : Position) → a ≡ Placing.Placed p → (p .turn ≤ 3) × (endColumn r (now o) p ≤ 4096)) ⌝ }
+    ensures { λ e. ⌜ e ≡ endOf r (now (o .entry)) a ⌝ }
+{
+    match a {
+        Placing::Placed(p) => {
+            let b = outline::bounds_of(o);
+            let e = outline::extent_of(o, b, p.turn);
+            p.column as usize + best::columns_for(e.w, r)
+        }
+        Placing::Refused(f) => 0,
+    }
+}
+
+pub fn counted(t: Tally, a: Placing, end: u16) -> Tally
+    requires { ⌜ Few t ⌝ }
+    ensures { λ r. ⌜ r ≡ tallied t a end ⌝ }
+{
+    let used = numbers::more(t.used, end);
+    match a {
+        Placing::Placed(p) => Tally {
+            ordinal: t.ordinal + 1,
+            placed: t.placed + 1,
+            used,
+            second: !t.second,
+        },
+        Placing::Refused(r) => Tally {
+            ordinal: t.ordinal + 1,
+            placed: t.placed,
+            used,
+            second: t.second,
+        },
+    }
+}

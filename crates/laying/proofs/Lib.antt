@@ -1,0 +1,4 @@
+pub mod Currents
+pub mod Pieces
+pub mod Going
+pub mod Tops

@@ -1,0 +1,63 @@
+-- What is known of a sheet after each of its questions.
+-- Assumes nothing.
+use mathlib.Core.Path.{_≡_}
+use mathlib.Core.Bool.{Bool, true}
+use mathlib.Core.List.{List}
+use mathlib.Core.Option.{none, some}
+use Prim.Native.Nat.{ℕ}
+use lib.ListN.{length}
+use Rattle.defs.specs.Meaning.Sheet.{sheetW, sheetR, sheetN}
+use Rattle.defs.specs.Computing.Words.{limitsb, lengthb}
+use Rattle.defs.specs.Computing.Calls.{refusal}
+use Rattle.defs.specs.Computing.Sheets.{q1b, q2b, q6b, pieceRecords, sheetPieceNo, firstNo, sheetNo}
+use Rattle.reads.specs.declared.No.{No}
+use Rattle.reads.specs.declared.No.the-variants.{Pass, At}
+use Rattle.reads.specs.declared.Strip.{Strip}
+use Rattle.reads.specs.declared.Strip.the-variants.{NotLent, Words}
+use Rattle.reads.specs.declared.Job.{Job}
+use Rattle.reads.specs.declared.Job.the-variants.{Pieces, No as Refused}
+
+pub record NoneRefused (b : List ℕ) : Type 0 where
+  pub is : firstNo (sheetPieceNo b) 1 (pieceRecords b) ≡ none
+
+pub record FirstRefused (b : List ℕ) (n k : ℕ) : Type 0 where
+  pub is : firstNo (sheetPieceNo b) 1 (pieceRecords b) ≡ some (refusal n k)
+
+-- "7 to 11 piece by piece": the first piece with a "no"
+abbrev pub Asked : List ℕ → No → Type 0
+Asked b Pass = NoneRefused b
+Asked b (At n k) = FirstRefused b n k
+
+-- 1 to 3 are passed
+pub record Begun (b : List ℕ) : Type 0 where
+  pub one : q1b b ≡ true
+  pub two : q2b b ≡ true
+  pub three : limitsb (sheetW b) (sheetR b) (sheetN b) ≡ true
+
+-- 6 is passed by `count` pieces
+pub record Counted (b : List ℕ) (count : ℕ) : Type 0 where
+  pub begun : Begun b
+  pub six : q6b b ≡ true
+  pub long : length (pieceRecords b) ≡ count
+
+-- 7 to 11 are passed
+pub record Passed (b : List ℕ) (count : ℕ) : Type 0 where
+  pub counted : Counted b count
+  pub none-no : NoneRefused b
+
+-- "4 … where a strip is lent"
+abbrev pub fourthOf : Strip → ℕ → Bool
+fourthOf NotLent N = true
+fourthOf (Words n) N = lengthb N n
+
+pub record JobPasses (b : List ℕ) (fourth : Bool) (count : ℕ) : Type 0 where
+  pub passed : Passed b count
+  pub four : fourth ≡ true
+
+pub record JobRefused (b : List ℕ) (fourth : Bool) (n k : ℕ) : Type 0 where
+  pub is : sheetNo b fourth ≡ some (refusal n k)
+
+-- the first "no" of the sheet's questions, or that all are passed
+abbrev pub JobAsked : List ℕ → Bool → Job → Type 0
+JobAsked b fourth (Pieces n) = JobPasses b fourth n
+JobAsked b fourth (Refused n k) = JobRefused b fourth n k

@@ -1,0 +1,251 @@
+// Reading a job sheet: its questions, and its cut list as words of the output.
+
+ghost use mathlib.Core.Bool.{true};
+ghost use mathlib.Core.Path.{_≡_};
+ghost use Prim.Native.Nat.{_+_, _≤_};
+ghost use lib.ListN.{length};
+ghost use lib.Seq.{sets};
+ghost use Rattle.defs.specs.Meaning.Sheet.{sheetR, sheetN, pieceWords, piecesWords, listWords};
+ghost use Rattle.defs.specs.Computing.Sheets.{pieceOf, pieceRecords, sheetPieces, sheetPieceNo, ReadStep};
+ghost use Rattle.reads.specs.Put.{Put, PieceAt, VertexEnds, AllEnd, PieceFits, ChainEnds, PiecesRoom, PieceCounted};
+ghost use Rattle.sheets.proofs.Answers.{figuresOf};
+ghost use Rattle.reads.specs.Steps.{Asked, Begun, Counted, Passed, fourthOf, JobAsked};
+use defs::Figures;
+use defs::Reading;
+use defs::Refusal;
+use sheet::Chain;
+
+// The first of questions 7 to 11 that gets "no" for piece record `at`, else 0. The outline is lent from a local.
+fn piece_no(sheet: &[u8], v: usize, at: usize) -> u16
+    requires { ⌜ PieceAt (now sheet) v at ⌝ ∗ ⌜ 1 ≤ sheetR (now sheet) ⌝ }
+    ensures { λ r. ⌜ r ≡ sheetPieceNo (now (sheet .entry)) at ⌝ }
+{
+    let piece = sheet::visit(sheet, v + at);
+    let mask = piece.second;
+    let mut words = [0u16; numbers::MOST_WORDS];
+    match sheet::gather(sheet, v, piece.first, &mut words) {
+        Chain::Whole(n) => {
+            let e = 2 * n;
+            asked::outline_no(&words[..e], checks::nine(mask), mask)
+        }
+        Chain::Broken => 7,
+    }
+}
+
+pub enum No {
+    Pass,
+    At(u16, u16),
+}
+
+// Questions 7 to 11, piece by piece: the first that gets "no", with the piece's place in the chain.
+fn first_no(sheet: &[u8], v: usize) -> No
+    requires { ⌜ ChainEnds (now sheet) v ⌝ ∗ ⌜ 1 ≤ sheetR (now sheet) ⌝ }
+    ensures { λ a. ⌜ Asked (now (sheet .entry)) a ⌝ }
+{
+    let mut at = sheet::number(sheet, sheet::FIRST_PIECE) as usize;
+    let mut left = sheet::MOST_PIECES;
+    let mut k: u16 = 1;
+    while 0 < at {
+        let n = piece_no(sheet, v, at);
+        if n != 0 {
+            return No::At(n, k);
+        }
+        at = sheet::visit(sheet, v + at).next as usize;
+        left -= 1;
+        k += 1;
+    }
+    No::Pass
+}
+
+// The number of words of the piece of piece record `at`.
+fn piece_words(sheet: &[u8], v: usize, at: usize) -> usize
+    requires { ⌜ PieceAt (now sheet) v at ⌝ ∗ ⌜ VertexEnds (now sheet) at ⌝ }
+    ensures { λ r. ⌜ PieceCounted (now (sheet .entry)) at r ⌝ }
+{
+    let piece = sheet::visit(sheet, v + at);
+    match sheet::follow(sheet, 0, v, piece.first, numbers::MOST_VERTICES) {
+        Chain::Whole(n) => 2 + 2 * n,
+        Chain::Broken => 0,
+    }
+}
+
+// The number of words of the cut list, which question 15 asks for.
+fn list_words(sheet: &[u8], v: usize) -> usize
+    requires { ⌜ ChainEnds (now sheet) v ⌝ ∗ ⌜ AllEnd (now sheet) (pieceRecords (now sheet)) ⌝ }
+    ensures { λ r. ⌜ r ≡ length (listWords (sheetPieces (now (sheet .entry)))) ⌝ }
+{
+    let mut at = sheet::number(sheet, sheet::FIRST_PIECE) as usize;
+    let mut left = sheet::MOST_PIECES;
+    let mut total: usize = 1;
+    while 0 < at {
+        total += piece_words(sheet, v, at);
+        at = sheet::visit(sheet, v + at).next as usize;
+        left -= 1;
+    }
+    total
+}
+
+// The words, from place `to` of the output.
+fn copy_in(words: &[u16], out: &mut [u16], to: usize)
+    requires { ⌜ to + length (now words) ≤ length (now out) ⌝ }
+    ensures { λ _. ⌜ now (out .exit) ≡ sets (now (out .entry)) to (now (words .entry)) ⌝ }
+{
+    let mut i: usize = 0;
+    while i < words.len() {
+        out[to + i] = words[i];
+        i += 1;
+    }
+}
+
+// The piece of piece record `at`, from place `to` of the output: vertex count, mask, x, y pairs. Answers the place after it.
+fn put_piece(sheet: &[u8], v: usize, at: usize, out: &mut [u16], to: usize) -> usize
+    requires { ⌜ PieceFits (now sheet) v at (now out) to ⌝ }
+    ensures { λ r. ⌜ Put (now (out .entry)) (now (out .exit)) to (pieceWords (pieceOf (now (sheet .entry)) at)) r ⌝ }
+{
+    let piece = sheet::visit(sheet, v + at);
+    let mut words = [0u16; numbers::MOST_WORDS];
+    match sheet::gather(sheet, v, piece.first, &mut words) {
+        Chain::Whole(n) => {
+            let e = 2 * n;
+            out[to] = n as u16;
+            out[to + 1] = piece.second;
+            copy_in(&words[..e], out, to + 2);
+            to + 2 + e
+        }
+        Chain::Broken => to,
+    }
+}
+
+// The pieces of the chain, from place 1 of the output.
+fn put_pieces(sheet: &[u8], v: usize, out: &mut [u16])
+    requires { ⌜ PiecesRoom (now sheet) v (now out) ⌝ }
+    ensures { λ _. ⌜ now (out .exit) ≡ sets (now (out .entry)) 1 (piecesWords (sheetPieces (now (sheet .entry)))) ⌝ }
+{
+    let mut at = sheet::number(sheet, sheet::FIRST_PIECE) as usize;
+    let mut left = sheet::MOST_PIECES;
+    let mut o: usize = 1;
+    while 0 < at {
+        o = put_piece(sheet, v, at, out, o);
+        at = sheet::visit(sheet, v + at).next as usize;
+        left -= 1;
+    }
+}
+
+// The cut list of a sheet of `count` pieces, from the start of the output.
+fn put_list(sheet: &[u8], v: usize, count: u16, out: &mut [u16])
+    requires { ⌜ PiecesRoom (now sheet) v (now out) ⌝ ∗ ⌜ count ≡ length (sheetPieces (now sheet)) ⌝ }
+    ensures { λ _. ⌜ now (out .exit) ≡ sets (now (out .entry)) 0 (listWords (sheetPieces (now (sheet .entry)))) ⌝ }
+{
+    out[0] = count;
+    put_pieces(sheet, v, out);
+}
+
+fn refused(number: u16, ordinal: u16) -> Reading
+    ensures { λ a. ⌜ a ≡ Reading.Refused (record { number = number; ordinal = ordinal }) ⌝ }
+{
+    Reading::Refused(Refusal {
+        number: number,
+        ordinal: ordinal,
+    })
+}
+
+// W, R and N of a sheet.
+pub fn figures_of(sheet: &[u8]) -> Figures
+    requires { ⌜ 16 ≤ length (now sheet) ⌝ }
+    ensures { λ f. ⌜ f ≡ figuresOf (now (sheet .entry)) ⌝ }
+{
+    Figures {
+        width: sheet::number(sheet, sheet::WIDTH),
+        resolution: sheet::number(sheet, sheet::RESOLUTION),
+        columns: sheet::number(sheet, sheet::COLUMNS),
+    }
+}
+
+// The strip that is lent beside the sheet, if one is: its words.
+pub enum Strip {
+    NotLent,
+    Words(usize),
+}
+
+// Question 4, where a strip is lent.
+fn fourth(strip: Strip, columns: u16) -> bool
+    ensures { λ a. ⌜ a ≡ fourthOf strip columns ⌝ }
+{
+    match strip {
+        Strip::NotLent => true,
+        Strip::Words(n) => limits::length_fits(columns, n),
+    }
+}
+
+// How many pieces passed every question, or the first "no".
+pub enum Job {
+    Pieces(usize),
+    No(u16, u16),
+}
+
+// Questions 7 to 11 of a sheet that passes those before.
+fn ask_pieces(sheet: &[u8], count: usize) -> Job
+    requires { ⌜ Counted (now sheet) count ⌝ }
+    ensures { λ a. ⌜ JobAsked (now (sheet .entry)) true a ⌝ }
+{
+    let v = sheet::number(sheet, sheet::VERTICES) as usize;
+    match first_no(sheet, v) {
+        No::Pass => Job::Pieces(count),
+        No::At(number, ordinal) => Job::No(number, ordinal),
+    }
+}
+
+// Questions 6 to 11 of a sheet that passes those before.
+fn ask_chain(sheet: &[u8]) -> Job
+    requires { ⌜ Begun (now sheet) ⌝ }
+    ensures { λ a. ⌜ JobAsked (now (sheet .entry)) true a ⌝ }
+{
+    match sheet::piece_chain(sheet) {
+        Chain::Whole(count) => ask_pieces(sheet, count),
+        Chain::Broken => Job::No(6, 0),
+    }
+}
+
+// Questions 1 to 3, 4 where a strip is lent, and 6 to 11.
+pub fn ask(sheet: &[u8], strip: Strip) -> Job
+    ensures { λ a. ⌜ JobAsked (now (sheet .entry)) (fourthOf strip (sheetN (now (sheet .entry)))) a ⌝ }
+{
+    if !sheet::begins(sheet) {
+        return Job::No(1, 0);
+    }
+    if !sheet::fits(sheet) {
+        return Job::No(2, 0);
+    }
+    let f = figures_of(sheet);
+    if !limits::limits_fit(f.width, f.resolution, f.columns) {
+        return Job::No(3, 0);
+    }
+    if !fourth(strip, f.columns) {
+        return Job::No(4, 0);
+    }
+    ask_chain(sheet)
+}
+
+// Question 15 of a sheet that passes the others; then its cut list.
+fn read_list(sheet: &[u8], count: usize, out: &mut [u16]) -> Reading
+    requires { ⌜ Passed (now sheet) count ⌝ }
+    ensures { λ a. ⌜ ReadStep (now (sheet .entry)) (now (out .entry)) a (now (out .exit)) ⌝ }
+{
+    let v = sheet::number(sheet, sheet::VERTICES) as usize;
+    let n = list_words(sheet, v);
+    if out.len() < n {
+        return refused(15, 0);
+    }
+    put_list(sheet, v, count as u16, out);
+    Reading::Read(figures_of(sheet))
+}
+
+// The read call. Nothing is written before every question is answered.
+pub fn read(sheet: &[u8], out: &mut [u16]) -> Reading
+    ensures { λ a. ⌜ ReadStep (now (sheet .entry)) (now (out .entry)) a (now (out .exit)) ⌝ }
+{
+    match ask(sheet, Strip::NotLent) {
+        Job::Pieces(count) => read_list(sheet, count, out),
+        Job::No(number, ordinal) => refused(number, ordinal),
+    }
+}

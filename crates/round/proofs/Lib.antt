@@ -1,0 +1,3 @@
+pub mod Risings
+pub mod Goings
+pub mod Ranges

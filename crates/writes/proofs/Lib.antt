@@ -1,0 +1,5 @@
+pub mod Puts
+pub mod Tails
+pub mod Fronts
+pub mod Asking
+pub mod Outputs

@@ -1,0 +1,166 @@
+//! Times of whole jobs, each laid from its sheet in one call, beside those of a plain
+//! Rust program that asks the same questions of the sheet and has the same walk, in
+//! one run. The engine writes the strip's words; the plain program keeps its own form
+//! of it.
+
+use engine::plain_place::Board;
+use engine::{data, plain_sheet};
+use reference::figures::Piece;
+use reference::generate::outlines::is_sound;
+use reference::generate::{Job, Random};
+use reference::sheet::list_words;
+use reference::{Figures, Totals};
+use std::time::Instant;
+
+const WIDTH: u16 = 8_000;
+/// As many words as the program `lay` has.
+const WORK: usize = 9_000;
+
+/// A job on a strip of so many records, with the words of its cut list.
+struct Laid {
+    job: Job,
+    sheet: Vec<u8>,
+    list_words: usize,
+    q: usize,
+}
+
+impl Laid {
+    fn new(pieces: &[Piece], r: u16, n: u16, q: usize) -> Laid {
+        let job = Job {
+            figures: Figures {
+                width: WIDTH,
+                resolution: r,
+                columns: n,
+            },
+            pieces: pieces.to_vec(),
+        };
+        Laid {
+            sheet: job.sheet(),
+            list_words: list_words(pieces).len(),
+            job,
+            q,
+        }
+    }
+
+    fn strip_words(&self) -> usize {
+        4 + usize::from(self.job.figures.columns) + 4 * self.q
+    }
+}
+
+/// The entries of a job.
+type Entries = Vec<[u16; 4]>;
+
+/// The plain program: the sheet read, every piece of it asked about, then each of
+/// them placed.
+fn by_plain(laid: &Laid) -> (Entries, Board) {
+    let mut list = vec![0; laid.list_words];
+    let of = plain_sheet::read(&laid.sheet, &mut list).expect("a sound sheet");
+    let mut board = Board::open(of.width, of.resolution, of.columns, laid.q);
+    let mut entries = Vec::new();
+    let mut rest = &list[1..];
+    while let [vertices, mask, words @ ..] = rest {
+        let (outline, after) = words.split_at(2 * usize::from(*vertices));
+        entries.push(match board.place_sound(outline, *mask, WORK) {
+            Ok(at) => [0, at.turn, at.column, at.height],
+            Err(refusal) => [refusal.number, 0, 0, 0],
+        });
+        rest = after;
+    }
+    (entries, board)
+}
+
+/// The buffers that are lent to the engine.
+struct Lent {
+    strip: Vec<u16>,
+    output: Vec<u16>,
+    work: Vec<u16>,
+}
+
+fn by_engine(laid: &Laid, lent: &mut Lent) -> Totals {
+    engine::lay(
+        &laid.sheet,
+        &mut lent.strip,
+        &mut lent.output,
+        &mut lent.work,
+    )
+    .expect("a sound sheet")
+}
+
+fn microseconds(start: Instant) -> f64 {
+    1e6 * start.elapsed().as_secs_f64()
+}
+
+/// The rounds of the two take turns, so that what else the machine does falls on
+/// both; the least time of each counts.
+fn row(name: &str, laid: &Laid) {
+    let count = laid.job.pieces.len();
+    let mut lent = Lent {
+        strip: vec![0; laid.strip_words()],
+        output: vec![0; 4 * count],
+        work: vec![0; WORK],
+    };
+    let (mut engine, mut plain) = (f64::MAX, f64::MAX);
+    let mut placed = 0;
+    let begun = Instant::now();
+    let mut rounds = 0;
+    while rounds < 5 || (rounds < 40 && begun.elapsed().as_millis() < 1_500) {
+        let start = Instant::now();
+        let totals = by_engine(laid, &mut lent);
+        engine = engine.min(microseconds(start));
+        let start = Instant::now();
+        let (entries, board) = by_plain(laid);
+        plain = plain.min(microseconds(start));
+        assert!(lent.output == entries.concat());
+        assert!(reference::strip_runs(&lent.strip) == board.columns());
+        placed = totals.placed;
+        rounds += 1;
+    }
+    let Figures {
+        resolution,
+        columns,
+        ..
+    } = laid.job.figures;
+    println!(
+        "{name:9} R {resolution:3} mask {:2}  N {columns:4} Q {:5}  placed {placed:3} of {count:3}  engine {engine:9.0} us  plain {plain:9.0} us  ratio {:.2}",
+        laid.job.pieces[0].mask,
+        laid.q,
+        engine / plain
+    );
+}
+
+/// Pieces that pass questions 7 to 11, in any order.
+fn pieces(file: &str, times: u16, count: usize, mask: u16) -> Vec<Piece> {
+    let larger = |outline: Vec<u16>| -> Vec<u16> { outline.iter().map(|x| times * x).collect() };
+    let mut outlines: Vec<Vec<u16>> = data::outlines(file)
+        .into_iter()
+        .map(larger)
+        .filter(|outline| is_sound(outline, 15))
+        .collect();
+    Random::new(51).shuffle(&mut outlines);
+    assert!(outlines.len() >= count, "{}", outlines.len());
+    let with_mask = |outline| Piece { outline, mask };
+    outlines.into_iter().take(count).map(with_mask).collect()
+}
+
+fn main() {
+    // Countries four times as large, to be of the counties' size.
+    let jobs = [
+        ("counties", data::NC_COUNTIES, 1, 25),
+        ("counties", data::NC_COUNTIES, 1, 50),
+        ("counties", data::NC_COUNTIES, 1, 100),
+        ("countries", data::NATURAL_EARTH, 4, 200),
+    ];
+    for (name, file, times, count) in jobs {
+        for (r, n, q) in [(100, 300, 4_000), (20, 1_500, 16_000)] {
+            for mask in [1, 15] {
+                let pieces = pieces(file, times, count, mask);
+                row(name, &Laid::new(&pieces, r, n, q));
+            }
+        }
+    }
+    // As fine as 4,096 columns allow for them.
+    for mask in [1, 15] {
+        let pieces = pieces(data::NC_COUNTIES, 1, 25, mask);
+        row("counties", &Laid::new(&pieces, 4, 4_096, 16_000));
+    }
+}
