@@ -1,7 +1,10 @@
 //! Times of whole jobs, each laid from its sheet in one call, beside those of a plain
 //! Rust program that asks the same questions of the sheet and has the same walk, in
 //! one run. The engine writes the strip's words; the plain program keeps its own form
-//! of it.
+//! of it. Beside them stand times of other calls of the engine on the same pieces, to
+//! see what the time goes to: read, which asks the same questions of the sheet, and
+//! cover for each piece in each allowed turn, which has the same cells to work out but
+//! asks about each turn once more.
 
 use engine::plain_place::Board;
 use engine::{data, plain_sheet};
@@ -86,6 +89,32 @@ fn by_engine(laid: &Laid, lent: &mut Lent) -> Totals {
     .expect("a sound sheet")
 }
 
+/// The cells of each piece in each allowed turn.
+fn cover_all(laid: &Laid, output: &mut [u16]) {
+    for piece in &laid.job.pieces {
+        for turn in (0..4).filter(|turn| piece.mask >> turn & 1 == 1) {
+            let runs = engine::cover(&piece.outline, turn, laid.job.figures.resolution, output);
+            assert!(runs.is_ok());
+        }
+    }
+}
+
+/// Least microseconds of reading the sheet, and of covering all pieces.
+fn parts(laid: &Laid) -> (f64, f64) {
+    let mut list = vec![0; laid.list_words];
+    let mut output = vec![0; WORK];
+    let (mut read, mut cover) = (f64::MAX, f64::MAX);
+    for _ in 0..10 {
+        let start = Instant::now();
+        assert!(engine::read(&laid.sheet, &mut list).is_ok());
+        read = read.min(microseconds(start));
+        let start = Instant::now();
+        cover_all(laid, &mut output);
+        cover = cover.min(microseconds(start));
+    }
+    (read, cover)
+}
+
 fn microseconds(start: Instant) -> f64 {
     1e6 * start.elapsed().as_secs_f64()
 }
@@ -115,13 +144,14 @@ fn row(name: &str, laid: &Laid) {
         placed = totals.placed;
         rounds += 1;
     }
+    let (read, cover) = parts(laid);
     let Figures {
         resolution,
         columns,
         ..
     } = laid.job.figures;
     println!(
-        "{name:9} R {resolution:3} mask {:2}  N {columns:4} Q {:5}  placed {placed:3} of {count:3}  engine {engine:9.0} us  plain {plain:9.0} us  ratio {:.2}",
+        "{name:9} R {resolution:3} mask {:2}  N {columns:4} Q {:5}  placed {placed:3} of {count:3}  engine {engine:9.0} us  plain {plain:9.0} us  ratio {:.2}  read {read:6.0} us  cover {cover:6.0} us",
         laid.job.pieces[0].mask,
         laid.q,
         engine / plain
