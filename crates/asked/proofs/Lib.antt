@@ -1,3 +1,4 @@
 pub mod OneColumn
+pub mod FirstSlab
 pub mod AllowedTurns
 pub mod InOrder

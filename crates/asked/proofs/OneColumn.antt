@@ -22,13 +22,13 @@ use Rattle.column.specs.Rows.{ColumnOf, Working}
 use Rattle.asked.specs.Answers.{HasCell}
 
 -- new buffers and no slab kept
-pub new-work : {h0 h1 w g0 g1 l h : List ℕ} (v : List ℕ) → length h0 ≡ 64 → length h1 ≡ 64 → length w ≡ 64 → length g0 ≡ 64 →
-    length g1 ≡ 64 → length l ≡ 8001 → length h ≡ 8001 → Working v 0 0 0 0 h0 h1 w g0 g1 l h
-new-work v a b c d e f g =
+pub new-work : {h0 h1 w g0 g1 l h : List ℕ} (v : List ℕ) {a b m c : ℕ} → b ≡ 0 → c ≡ 0 → length h0 ≡ 64 → length h1 ≡ 64 →
+    length w ≡ 64 → length g0 ≡ 64 → length g1 ≡ 64 → length l ≡ 8001 → length h ≡ 8001 → Working v a b m c h0 h1 w g0 g1 l h
+new-work v eb ec e0 e1 ew f0 f1 el eh =
     record {
-      buffers = record { left = a; right = b; wide = c; lows = omega arith; highs = omega arith };
-      part-left = d;
-      part-right = e;
+      buffers = record { left = e0; right = e1; wide = ew; lows = omega arith; highs = omega arith };
+      part-left = f0;
+      part-right = f1;
       kept = λ z. absurd (omega arith);
       next = record { none = λ i l z. omega arith };
     }
@@ -37,7 +37,7 @@ pub some-side : {o : List ℕ} → Lent o → 0 < sides o
 some-side lent = omega (arith, lent .some)
 
 -- a unit column lies in the cell's column by division
-unit-cell : {v : List ℕ} (R k j : ℕ) → 1 ≤ R → Covered v 1 k j → Covered v R (k / R) j
+pub unit-cell : {v : List ℕ} (R k j : ℕ) → 1 ≤ R → Covered v 1 k j → Covered v R (k / R) j
 unit-cell R k j Rpos c =
     widen (record { k = k; from = omega (arith, div-add-mod k R); to = omega (arith, div-add-mod k R, mod-lt k Rpos); there = c })
 

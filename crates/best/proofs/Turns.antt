@@ -21,9 +21,12 @@ use Rattle.laws.proofs.Questions.{allowed}
 use Rattle.geom.proofs.Strip.{lt-or-le}
 use Rattle.geom.proofs.RunWords.{runs-length}
 use Rattle.cells.specs.Put.{PutRuns}
+use Rattle.outline.specs.Vertex.{Lent}
 use Rattle.tables.specs.Flat.{Laid, tableOf}
 use Rattle.tables.specs.Piece.{Stands}
 use Rattle.tables.proofs.FirstFree.{first-at}
+use Rattle.tables.proofs.Flats.{table-flat}
+use Rattle.tables.proofs.Copies.{NoneBefore, not-free}
 use Rattle.walk.specs.declared.Spot.{Spot}
 use Rattle.walk.specs.declared.Spot.the-variants.{Found, None}
 use Rattle.walk.specs.Free.{Frame, NoHeight, Searched}
@@ -31,7 +34,7 @@ use Rattle.walk.proofs.Searches.{frame-of, free-is, found-is}
 use Rattle.round.specs.Range.{SearchedIn}
 use Rattle.best.specs.declared.Choice.{Choice}
 use Rattle.best.specs.declared.Choice.the-variants.{Nowhere}
-use Rattle.best.specs.Choice.{ranked, SpotFits, SearchedTo, FindsTo, OneTurn, Kept}
+use Rattle.best.specs.Choice.{ranked, SpotFits, FullBefore, SearchedTo, FindsTo, NoneInTurn, OneTurn, Kept}
 
 -- words written at the start are read there
 stored-front : (l ws : List ℕ) → length ws ≤ length l → take (length ws) (sets l 0 ws) ≡ ws
@@ -57,16 +60,25 @@ module _ {o : List ℕ} {t R : ℕ} {work work' : List ℕ} {k : ℕ} (put : Put
   pub put-kept : Kept o R work' t k
   put-kept = record { stand = λ _ fits. stands (omega (arith, put .count)) }
 
--- a whole search, and one from column 0 to the last from which the piece ends at `limit`
+-- a whole search, and one from the first column from which the piece ends at `lower` to the last from which it ends at `limit`
 module _ (f l h r : List ℕ) (N W p w t limit : ℕ) where
   pub walked-to : (s : Spot) → limit ≤ N → Searched f l h r N W p w t s → SearchedTo f l h r N W p w t limit s
   walked-to (Found c y) few e = e
   walked-to None few e = λ c u. e c (omega arith)
 
-  pub rounded-to : {end : ℕ} (s : Spot) → limit ≤ N → end ≡ limit + 1 - w → SearchedIn f l h r N W p w t 0 end s →
-      SearchedTo f l h r N W p w t limit s
-  rounded-to (Found c y) few q e = record { fits = e .fits; height = e .height; least = λ b. e .least b (omega arith) }
-  rounded-to None few q e = λ c u. e c (omega arith) (omega arith) (omega arith)
+  pub rounded-to : {lower from end : ℕ} (s : Spot) → limit ≤ N → FullBefore f l h r N W p w t lower → from ≡ lower - w →
+      end ≡ limit + 1 - w → SearchedIn f l h r N W p w t from end s → SearchedTo f l h r N W p w t limit s
+  rounded-to {from = from} (Found c y) few full a z e =
+      record {
+        fits = e .fits;
+        height = e .height;
+        least =
+            λ b u.
+            ⊎-elim (λ before. full .none b (omega arith) (omega (arith, e .fits))) (λ after. e .least b after u) (lt-or-le b from);
+      }
+  rounded-to {from = from} None few full a z e =
+      λ c u.
+      ⊎-elim (λ before. full .none c (omega arith) (omega arith)) (λ after. e c after (omega arith) (omega arith)) (lt-or-le c from)
 
 -- what is found where a test passes
 found-where : (b : Bool) {x q : Position} → cond b (some x) none ≡ some q → (b ≡ true) × (x ≡ q)
@@ -89,6 +101,16 @@ module _
 
   pub frame : Frame f l h r N W p wide tall
   frame = rw (wide-is, up) (frame-of o t R laid stood)
+
+  -- where no position of the turn that ends before column `lower` is free, no column before has a free height
+  pub full-before : {lower : ℕ} → NoneInTurn W R N (tableOf f l h N) o t lower → FullBefore f l h r N W p wide tall lower
+  full-before h =
+      rw (wide-is, up)
+      (record {
+        none =
+            λ c before fits.
+            record { none = λ y rows free. h .none c y before fits rows (free-is o t R laid stood c y fits .0 free) };
+      })
 
   pub spot-fits : (limit : ℕ) (s : Spot) → W ≤ 16000 → N ≤ 4096 → SearchedTo f l h r N W p wide tall limit s → SpotFits s wide tall
   spot-fits limit (Found c y) a b e = (omega (arith, e .fits), omega (arith, e .height .fits))
@@ -130,3 +152,12 @@ pub keeps-turn : (o : List ℕ) (mask t : ℕ) {r : Bool} → t ≤ 3 → Questi
     KeepsOrder (turned o t)
 unfolding Question10
 keeps-turn o mask t l q e y = q t (allowed mask t l .0 (sym e ∙ y))
+
+-- in an allowed turn, none that ends before column `lower` is free
+pub none-in-turn : {f l h : List ℕ} {W R N n : ℕ} (o : List ℕ) (mask t : ℕ) {lower : ℕ} {r : Bool} → Lent o → 1 ≤ R → Laid f l h W N n →
+    t ≤ 3 → Question10 o mask → r ≡ allowedb mask t → r ≡ true → NoneBefore W R N (tableOf f l h N) o mask lower →
+    NoneInTurn W R N (tableOf f l h N) o t lower
+none-in-turn o mask t lent Rpos laid few q e y h =
+    record {
+      none = not-free h (allowed mask t few .0 (sym e ∙ y)) (keeps-turn o mask t few q e y) (omega (arith, lent .some)) Rpos (table-flat laid);
+    }

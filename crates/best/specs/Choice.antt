@@ -1,15 +1,16 @@
 -- What is chosen among turns. Assumes nothing.
 use mathlib.Core.Path.{_≡_}
-use mathlib.Core.Bool.{Bool, cond, _&&_, _||_}
+use mathlib.Core.Bool.{Bool, true, cond, _&&_, _||_}
 use mathlib.Core.List.{List}
 use mathlib.Core.Option.{Option, none, some}
 use Prim.Native.Nat.{ℕ, _+_, _*_, _≤_, _<_, max, min}
 use lib.Dec.{ltb, eqb}
 use lib.ListN.{length}
 use Rattle.defs.specs.declared.Position.{Position}
-use Rattle.defs.specs.Meaning.Placing.{endColumn, top}
+use Rattle.defs.specs.Meaning.Turn.{extentX, extentY}
+use Rattle.defs.specs.Meaning.Placing.{columnsFor, endColumn, top}
 use Rattle.defs.specs.Computing.Cells.{Rows, pieceRuns, countRuns, mostRuns}
-use Rattle.defs.specs.Computing.Search.{firstFree, bestBelow}
+use Rattle.defs.specs.Computing.Search.{freeb, dropN, firstFree, bestBelow}
 use Rattle.outline.specs.Vertex.{Lent, BoundsOf}
 use Rattle.tables.specs.Flat.{Laid}
 use Rattle.tables.specs.Piece.{Stands}
@@ -73,6 +74,10 @@ abbrev pub FindsTo : ℕ → ℕ → List ℕ → Option Position → ℕ → Ch
 FindsTo R N o x limit (Chosen b) = Finds R o x (Chosen b)
 FindsTo R N o x limit Nowhere = (q : Position) → x ≡ some q → (limit < endColumn R o q) × (endColumn R o q ≤ N)
 
+-- no column from which the piece ends before column `lower` has a free height
+pub record FullBefore (f l h r : List ℕ) (N W p w t lower : ℕ) : Type 0 where
+  pub none : (c : ℕ) → c + w < lower → c + w ≤ N → NoHeight f l h r W p t c
+
 -- the first free position; if none was found, none ends at column `limit` or before it
 abbrev pub SearchedTo : (f l h r : List ℕ) (N W p w t limit : ℕ) → Spot → Type 0
 SearchedTo f l h r N W p w t limit (Found c y) = FirstSpot f l h r N W p w t c y
@@ -88,6 +93,12 @@ pub record Ready (f l h o : List ℕ) (W R N left right foot head : ℕ) : Type 
   pub columns : N ≤ 4096
   pub count : ℕ
   pub table : Laid f l h W N count
+
+-- no free position of turn t ends before column `lower`
+pub record NoneInTurn (W R N : ℕ) (held : List (List Rows)) (o : List ℕ) (t lower : ℕ) : Type 0 where
+  pub none :
+      (c y : ℕ) → c + columnsFor (extentX o t) R < lower → c + columnsFor (extentX o t) R ≤ N → y + extentY o t ≤ W →
+      ¬ (freeb y (pieceRuns o t R) (dropN c held) ≡ true)
 
 -- turn t, with work of so many words, searched up to column `limit`
 pub record OneTurn (W R N : ℕ) (held : List (List Rows)) (o : List ℕ) (t words limit : ℕ) (s : Tried) : Type 0 where

@@ -8,8 +8,9 @@ ghost use Rattle.defs.specs.Meaning.Turn.{turned};
 ghost use Rattle.defs.specs.Meaning.Placing.{columnsFor};
 ghost use Rattle.defs.specs.Meaning.Question.{Question10};
 ghost use Rattle.tables.specs.Flat.{tableOf};
+ghost use Rattle.tables.proofs.Copies.{NoneBefore};
 ghost use Rattle.walk.specs.Free.{Frame};
-ghost use Rattle.best.specs.Choice.{beatsBy, betterBy, merged, limitOf, SpotFits, ranked, Ready, SearchedTo, OneTurn, TurnsTo, Kept};
+ghost use Rattle.best.specs.Choice.{beatsBy, betterBy, merged, limitOf, SpotFits, ranked, Ready, FullBefore, SearchedTo, NoneInTurn, OneTurn, TurnsTo, Kept};
 use defs::Figures;
 use defs::Position;
 use outline::Bounds;
@@ -123,7 +124,15 @@ fn stop_at(limit: usize, w: usize) -> usize
     if limit < w { 0 } else { limit - w + 1 }
 }
 
-// The least free position of a piece. Going round, only positions up to the last column `limit` are tried.
+// Where the columns begin from which w columns go up to `lower` at least.
+fn start_at(lower: usize, w: usize) -> usize
+    ensures { λ e. ⌜ e ≡ lower - w ⌝ }
+{
+    if lower < w { 0 } else { lower - w }
+}
+
+// The least free position of a piece, where none ends before column `lower`. Going round, only positions from there on and up to the
+// last column `limit` are tried.
 fn search(
     first: &[u16],
     lows: &[u16],
@@ -131,17 +140,20 @@ fn search(
     runs: &[u16],
     s: Search,
     way: Way,
+    lower: usize,
     limit: usize,
 ) -> Spot
     requires { ⌜ Frame (now first) (now lows) (now highs) (now runs) (s .columns) (s .width) (s .runs) (s .wide) (s .tall) ⌝
-        ∗ ⌜ (s .width ≤ 16000) × (s .columns ≤ 4096) × (limit ≤ s .columns) ⌝ }
+        ∗ ⌜ (s .width ≤ 16000) × (s .columns ≤ 4096) × (limit ≤ s .columns)
+        × FullBefore (now first) (now lows) (now highs) (now runs) (s .columns) (s .width) (s .runs) (s .wide) (s .tall) lower ⌝ }
     ensures { λ a. ⌜ SearchedTo (now (first .entry)) (now (lows .entry)) (now (highs .entry)) (now (runs .entry)) (s .columns) (s .width) (s .runs) (s .wide) (s .tall) limit a ⌝ }
 {
     match way {
         Way::Walk => walk::walk_turn(first, lows, highs, runs, s),
         Way::Round => {
+            let from = start_at(lower, s.wide);
             let end = stop_at(limit, s.wide);
-            round::round_range(first, lows, highs, runs, s, 0, end)
+            round::round_range(first, lows, highs, runs, s, from, end)
         }
     }
 }
@@ -165,8 +177,8 @@ fn rank(s: Spot, t: u16, wide: usize, tall: u16) -> Choice
     }
 }
 
-// The least free position in turn t, where the runs of the turn fit in the work buffer. One whose last column is after `limit` may be
-// left out.
+// The least free position in turn t, where the runs of the turn fit in the work buffer and none ends before column `lower`. One whose
+// last column is after `limit` may be left out.
 fn try_turn(
     g: Figures,
     first: &[u16],
@@ -176,11 +188,13 @@ fn try_turn(
     b: Bounds,
     t: u16,
     way: Way,
+    lower: usize,
     limit: usize,
     work: &mut [u16],
 ) -> Tried
     requires { ⌜ Ready (now first) (now lows) (now highs) (now o) (g .width) (g .resolution) (g .columns) (b .left) (b .right) (b .foot) (b .head) ⌝
-        ∗ ⌜ t ≤ 3 ⌝ ∗ ⌜ KeepsOrder (turned (now o) t) ⌝ ∗ ⌜ limit ≤ g .columns ⌝ }
+        ∗ ⌜ t ≤ 3 ⌝ ∗ ⌜ KeepsOrder (turned (now o) t) ⌝ ∗ ⌜ (limit ≤ g .columns)
+        × NoneInTurn (g .width) (g .resolution) (g .columns) (tableOf (now first) (now lows) (now highs) (g .columns)) (now o) t lower ⌝ }
     ensures { λ s. ⌜ OneTurn (g .width) (g .resolution) (g .columns) (tableOf (now (first .entry)) (now (lows .entry)) (now (highs .entry)) (g .columns)) (now (o .entry)) t (length (now (work .entry))) limit s ⌝
         ∗ ⌜ Kept (now (o .entry)) (g .resolution) (now (work .exit)) (s .stands .turn) (s .stands .runs) ⌝ }
 {
@@ -201,7 +215,7 @@ fn try_turn(
         wide: wide,
         tall: e.h,
     };
-    let s = search(first, lows, highs, work, figures, way, limit);
+    let s = search(first, lows, highs, work, figures, way, lower, limit);
     Tried {
         most: k,
         best: rank(s, t, wide, e.h),
@@ -220,11 +234,14 @@ fn allowed_turn(
     mask: u16,
     t: u16,
     way: Way,
+    lower: usize,
     work: &mut [u16],
     s: Tried,
 ) -> Tried
     requires { ⌜ Ready (now first) (now lows) (now highs) (now o) (g .width) (g .resolution) (g .columns) (b .left) (b .right) (b .foot) (b .head) ⌝
-        ∗ ⌜ t ≤ 3 ⌝ ∗ ⌜ Question10 (now o) mask ⌝
+        ∗ ⌜ t ≤ 3 ⌝
+        ∗ ⌜ Question10 (now o) mask
+        × NoneBefore (g .width) (g .resolution) (g .columns) (tableOf (now first) (now lows) (now highs) (g .columns)) (now o) mask lower ⌝
         ∗ ⌜ TurnsTo (g .width) (g .resolution) (g .columns) (tableOf (now first) (now lows) (now highs) (g .columns)) (now o) mask t (length (now work)) s ⌝
         ∗ ⌜ Kept (now o) (g .resolution) (now work) (s .stands .turn) (s .stands .runs) ⌝ }
     ensures { λ r. ⌜ TurnsTo (g .width) (g .resolution) (g .columns) (tableOf (now (first .entry)) (now (lows .entry)) (now (highs .entry)) (g .columns)) (now (o .entry)) mask (t + 1) (length (now (work .entry))) r ⌝
@@ -233,13 +250,13 @@ fn allowed_turn(
     if checks::allows(mask, t) {
         let c = s.best;
         let limit = limit_of(c, g.columns as usize);
-        let x = try_turn(g, first, lows, highs, o, b, t, way, limit, work);
+        let x = try_turn(g, first, lows, highs, o, b, t, way, lower, limit, work);
         return merge(s, x);
     }
     s
 }
 
-// The best position in the allowed turns.
+// The best position in the allowed turns, where none ends before column `lower`.
 pub fn best_turn(
     g: Figures,
     first: &[u16],
@@ -249,10 +266,12 @@ pub fn best_turn(
     b: Bounds,
     mask: u16,
     way: Way,
+    lower: usize,
     work: &mut [u16],
 ) -> Tried
     requires { ⌜ Ready (now first) (now lows) (now highs) (now o) (g .width) (g .resolution) (g .columns) (b .left) (b .right) (b .foot) (b .head) ⌝
-        ∗ ⌜ Question10 (now o) mask ⌝ }
+        ∗ ⌜ Question10 (now o) mask
+        × NoneBefore (g .width) (g .resolution) (g .columns) (tableOf (now first) (now lows) (now highs) (g .columns)) (now o) mask lower ⌝ }
     ensures { λ r. ⌜ TurnsTo (g .width) (g .resolution) (g .columns) (tableOf (now (first .entry)) (now (lows .entry)) (now (highs .entry)) (g .columns)) (now (o .entry)) mask 4 (length (now (work .entry))) r ⌝
         ∗ ⌜ Kept (now (o .entry)) (g .resolution) (now (work .exit)) (r .stands .turn) (r .stands .runs) ⌝ }
 {
@@ -263,7 +282,7 @@ pub fn best_turn(
     };
     let mut t = 0;
     while t < 4 {
-        s = allowed_turn(g, first, lows, highs, o, b, mask, t, way, work, s);
+        s = allowed_turn(g, first, lows, highs, o, b, mask, t, way, lower, work, s);
         t += 1;
     }
     s

@@ -20,7 +20,8 @@ use Rattle.defs.specs.Computing.Calls.{rowsWords, runsWords}
 use Rattle.geom.proofs.Extent.{rounded-up, rounded-end}
 use Rattle.outline.specs.Vertex.{Lent, BoundsOf}
 use Rattle.entries.specs.Edges.{NextAt}
-use Rattle.column.specs.Rows.{Kept, Working, ColumnOf}
+use Rattle.section.specs.Slabs.{Kept}
+use Rattle.column.specs.Rows.{Working, ColumnOf}
 use Rattle.cells.specs.Put.{PutRuns}
 use Rattle.cells.specs.Columns.{pairAt, pairs, PutColumn, columnRuns}
 use Rattle.cells.proofs.Pairs.{column-runs}

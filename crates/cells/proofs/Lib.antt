@@ -1,4 +1,3 @@
 pub mod Pairs
 pub mod Words
 pub mod Columns
-pub mod Copies

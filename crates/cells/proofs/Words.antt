@@ -1,7 +1,7 @@
 -- The words of a column's runs, stored run by run: what is left to store gives the whole.
 -- Assumes nothing.
 use mathlib.Core.Path.{_≡_, refl, ap, sym, _∙_}
-use mathlib.Core.List.{List, [], _∷_}
+use mathlib.Core.List.{List}
 use Prim.Native.Nat.{ℕ, suc, _+_, _-_, _*_, _≤_, _<_}
 use native.Mathlib.Omega.{arith}
 use native.Mathlib.Numerals.{add-one}
@@ -9,7 +9,6 @@ use lib.ListN.{length, getD, set, length-set}
 use lib.Seq.{sets, length-sets}
 use Rattle.laws.proofs.Lists.{length-listFrom}
 use Rattle.defs.specs.Computing.Test.{listFrom}
-use Rattle.defs.specs.Computing.Cells.{Rows}
 use Rattle.defs.specs.Computing.Calls.{rowsWords}
 use Rattle.cells.specs.Columns.{pairAt, pairs, PutColumn}
 

@@ -2,7 +2,7 @@
 
 ghost use mathlib.Core.Path.{_≡_};
 ghost use Prim.Native.Nat.{_+_, _*_, _≤_, _<_, min};
-ghost use lib.ListN.{length, take};
+ghost use lib.ListN.{length};
 ghost use lib.Seq.{sets};
 ghost use Rattle.defs.specs.Meaning.Outline.{KeepsOrder};
 ghost use Rattle.defs.specs.Meaning.Turn.{turned, extentX};
@@ -11,7 +11,6 @@ ghost use Rattle.outline.specs.Vertex.{Lent, BoundsOf};
 ghost use Rattle.cells.specs.Put.{PutRuns, Resolution};
 ghost use Rattle.cells.specs.Columns.{pairs, ColumnFits, PutColumn};
 use column::Filled;
-use column::Section;
 use outline::Bounds;
 
 // No runs yet, and no slab looked at.
@@ -20,12 +19,7 @@ fn nothing() -> Filled
 {
     Filled {
         runs: 0,
-        slab: Section {
-            start: 0,
-            end: 0,
-            count: 0,
-            cut: 0,
-        },
+        slab: section::none(),
     }
 }
 
@@ -108,16 +102,4 @@ pub fn put_runs(o: &[u16], b: Bounds, t: u16, r: u16, w: u16, out: &mut [u16]) -
         i += 1;
     }
     k
-}
-
-// The first n words of `from`, copied to the start of the output.
-pub fn copy_front(from: &[u16], n: usize, out: &mut [u16])
-    requires { ⌜ (n ≤ length (now from)) × (n ≤ length (now out)) ⌝ }
-    ensures { λ _. ⌜ now (out .exit) ≡ sets (now (out .entry)) 0 (take n (now (from .entry))) ⌝ }
-{
-    let mut i = 0;
-    while i < n {
-        out[i] = from[i];
-        i += 1;
-    }
 }

@@ -1,28 +1,28 @@
 -- Question 8 word by word; question 10 pair by pair.
 -- Assumes nothing.
 use mathlib.Core.Path.{_≡_, refl, ap, ap₂, sym, subst, _∙_}
-use mathlib.Core.Bool.{Bool, true, false, not, _&&_, _||_, true≢false}
-use mathlib.Core.Logic.{_⊎_, inl, inr, ⊎-elim}
+use mathlib.Core.Bool.{Bool, true, false, _&&_, _||_, true≢false}
+use mathlib.Core.Logic.{_⊎_, ⊎-elim}
 use mathlib.Core.List.{List, [], _∷_}
-use Prim.Native.Nat.{ℕ, zero, suc, _+_, _*_, _-_, _/_, _%_, _≤_, _<_, min, max}
+use Prim.Native.Nat.{ℕ, zero, suc, _+_, _*_, _-_, _≤_, _<_, min, max}
 use native.Mathlib.Numerals.{add-one}
 use native.Mathlib.Omega.{arith}
-use native.Mathlib.Nat.{mul-le-mul, mul-le-mul-left, mul-le-mul-right, mul-one}
-use lib.Dec.{ltb, leb, eqb}
+use native.Mathlib.Nat.{mul-le-mul, mul-le-mul-right, mul-one}
+use lib.Dec.{leb}
 use lib.ListN.{length, getD}
-use borrow.Author.Tests.{lt-ltb, le-ltb, le-leb, lt-leb, ltb-true, ltb-false, leb-true, eqb-true, eqb-false, ne-eqb, eq-eqb, not-true}
-use Rattle.laws.proofs.Tests.{and-left, and-right, Some, anyTo-at, anyTo-of}
+use borrow.Author.Tests.{lt-ltb, le-ltb, le-leb, lt-leb, ltb-true}
+use Rattle.laws.proofs.Tests.{and-right, anyTo-at, anyTo-of}
 use Rattle.geom.proofs.Checks.{keeps-decides}
 use Rattle.defs.specs.Meaning.Outline.{Edge, sides, edgeAt, spans, width, height, lower, changeOrder, Ordered, KeepsOrder}
 use Rattle.defs.specs.Meaning.Turn.{turned, extentX}
-use Rattle.defs.specs.Computing.Test.{anyTo, allTo, all}
+use Rattle.defs.specs.Computing.Test.{anyTo, all}
 use Rattle.defs.specs.Computing.Calls.{q8b}
 use Rattle.defs.specs.Computing.Cells.{keepsOrderb}
-use Rattle.geom.proofs.Strip.{le-or-lt, lt-or-le}
+use Rattle.geom.proofs.Strip.{lt-or-le}
 use Rattle.geom.proofs.Column.{clash}
 use Rattle.geom.proofs.Extent.{sides-turned}
 use Rattle.slabs.specs.Change.{changesb, crossesb}
-use Rattle.slabs.proofs.Pair.{Change, change-of, change-test}
+use Rattle.slabs.proofs.Pair.{change-of, change-test}
 use Rattle.outline.specs.Vertex.{Small, SideOf, edgeOf}
 use Rattle.checks.specs.Order.{rowb, pairsb, HeightOf, Ends}
 
@@ -47,12 +47,6 @@ eight-not (x ∷ xs) (suc i) l h = ap (λ (b : Bool). leb x 16000 && b) (eight-n
 
 -- the height of an edge at x
 module _ {xl yl xr yr x : ℕ} (s : Small xl yl xr yr) (l : xl ≤ x) (r : x ≤ xr) where
-  pub first-most : yl * (xr - x) ≤ 256000000
-  first-most = product yl (xr - x) 16000 16000 (s .yl-most) (omega (arith, s .right-most))
-
-  pub second-most : yr * (x - xl) ≤ 256000000
-  second-most = product yr (x - xl) 16000 16000 (s .yr-most) (omega (arith, s .right-most))
-
   pub height-law : HeightOf (edgeOf xl yl xr yr) x (yl * (xr - x) + yr * (x - xl))
   unfolding height
   height-law =

@@ -3,8 +3,8 @@
 use mathlib.Core.Path.{_≡_}
 use mathlib.Core.Bool.{Bool, not, _||_}
 use mathlib.Core.List.{List}
-use Prim.Native.Nat.{ℕ, _+_, _*_, _≤_, _<_}
-use Rattle.defs.specs.Meaning.Outline.{Edge, edgeAt, height, width}
+use Prim.Native.Nat.{ℕ, _≤_}
+use Rattle.defs.specs.Meaning.Outline.{Edge, edgeAt, height}
 use Rattle.defs.specs.Meaning.Turn.{turned, extentX}
 use Rattle.defs.specs.Computing.Test.{anyTo, allTo}
 use Rattle.defs.specs.Computing.Cells.{keepsOrderb, allowedb}

@@ -1,17 +1,16 @@
 // Questions 7 to 10.
 
 ghost use mathlib.Core.Path.{_≡_};
-ghost use mathlib.Core.Bool.{not};
 ghost use Prim.Native.Nat.{_+_, _*_, _-_, _≤_, _<_, min, max};
 ghost use lib.Dec.{leb};
 ghost use lib.ListN.{length};
-ghost use Rattle.defs.specs.Meaning.Outline.{sides, edgeAt};
+ghost use Rattle.defs.specs.Meaning.Outline.{sides};
 ghost use Rattle.defs.specs.Meaning.Turn.{turned, extentX};
 ghost use Rattle.defs.specs.Computing.Calls.{q7b, q8b, q9b};
 ghost use Rattle.defs.specs.Computing.Cells.{keepsOrderb, allowedb, ordersb};
-ghost use Rattle.outline.specs.Vertex.{Lent, BoundsOf, SideOf, Small, edgeOf};
+ghost use Rattle.outline.specs.Vertex.{Lent, BoundsOf, Small, edgeOf};
 ghost use Rattle.slabs.specs.Change.{passesb, crossesb, changesb};
-ghost use Rattle.checks.specs.Order.{rowb, pairsb, turnb, HeightOf, Ends};
+ghost use Rattle.checks.specs.Order.{rowb, turnb, HeightOf, Ends};
 use outline::Bounds;
 use outline::Side;
 
@@ -90,8 +89,8 @@ fn crosses(a0: u64, b0: u64, a1: u64, b1: u64, l: u64) -> bool
     passes(b0, a0, b1, a1, l)
 }
 
-// Whether two edges change order in some unit column.
-pub fn changes(e: Side, f: Side) -> bool
+// Whether two edges change order in some unit column, from their heights at the ends of their common span.
+fn swaps(e: Side, f: Side) -> bool
     requires { ⌜ Small (e .xl) (e .yl) (e .xr) (e .yr) ⌝ ∗ ⌜ Small (f .xl) (f .yl) (f .xr) (f .yr) ⌝ }
     ensures { λ r. ⌜ r ≡ changesb (edgeOf (e .xl) (e .yl) (e .xr) (e .yr)) (edgeOf (f .xl) (f .yl) (f .xr) (f .yr)) ⌝ }
 {
@@ -107,6 +106,27 @@ pub fn changes(e: Side, f: Side) -> bool
         return crosses(e0 * w, f0 * v, e1 * w, f1 * v, numbers::wide(b - a));
     }
     false
+}
+
+// Whether no point of the first edge is above one of the second.
+fn under(e: Side, f: Side) -> bool
+    ensures { λ r. ⌜ r ≡ leb (max (e .yl) (e .yr)) (min (f .yl) (f .yr)) ⌝ }
+{
+    numbers::more(e.yl, e.yr) <= numbers::less(f.yl, f.yr)
+}
+
+// The same. Of most pairs one is under the other, which is found without products.
+pub fn changes(e: Side, f: Side) -> bool
+    requires { ⌜ Small (e .xl) (e .yl) (e .xr) (e .yr) ⌝ ∗ ⌜ Small (f .xl) (f .yl) (f .xr) (f .yr) ⌝ }
+    ensures { λ r. ⌜ r ≡ changesb (edgeOf (e .xl) (e .yl) (e .xr) (e .yr)) (edgeOf (f .xl) (f .yl) (f .xr) (f .yr)) ⌝ }
+{
+    if under(e, f) {
+        return false;
+    }
+    if under(f, e) {
+        return false;
+    }
+    swaps(e, f)
 }
 
 // Whether an edge changes order with one of the edges before i. u is vertex j, read in the step before.

@@ -23,6 +23,7 @@ use Rattle.defs.specs.Computing.Calls.{refusal, cleared, openAnswer, Left, Open
 use Rattle.defs.specs.Computing.Sheets.{q1b, q2b, sheetNo, pieceRecords, sheetPieces}
 use Rattle.defs.specs.Computing.Lay.{fateOf, placedIn, usedIn, layEntries, layAnswer, layOutput, LayLeaves, LayStep}
 use Rattle.laws.proofs.Questions.{question-3, length-decides}
+use Rattle.laws.proofs.Entries.{length-entriesFrom}
 use Rattle.sheets.proofs.Asking.{asked, some-none}
 use Rattle.sheets.proofs.Passing.{Held, none-held}
 use Rattle.sheets.proofs.Answers.{not-refused}
@@ -32,7 +33,7 @@ use Rattle.claims.specs.Demand3.{Demand3-holds}
 use Rattle.claims.specs.Laying.{LaysList, Lay-is-a-list, Lay-demand3}
 use Rattle.claims.proofs.Whole.{demand3-holds}
 use Rattle.claims.proofs.LayTotals.{pieceAt, fateAt, placed-counted, used-reached, entries-words}
-use Rattle.claims.proofs.LayStrips.{answerAt, length-entries, fates-are, Strips, strips}
+use Rattle.claims.proofs.LayStrips.{answerAt, fates-are, Strips, strips}
 
 -- a granted lay has passed 4, and the other questions of its sheet
 fourth : (b : List ℕ) (t : Bool) → sheetNo b t ≡ none → t ≡ true
@@ -144,7 +145,7 @@ module _ {b s out work : List ℕ} {t : Totals} {s' out' work' : List ℕ} (x : 
 
   entries-long : length entries ≡ length ps
   unfolding layEntries
-  entries-long = length-entries W R N Q (length work) 1 empty ps
+  entries-long = length-entriesFrom W R N Q (length work) 1 empty ps
 
   fates : fateAt entries ≡ λ m. fateOf (call m .answer)
   unfolding layEntries

@@ -1,7 +1,7 @@
 -- The pieces of a job as place calls: for the strip that lay leaves there are strips before it, one for each call, between which the
 -- calls go. Where a piece is refused the strip before is the strip after; where one is placed it is the table so far, written.
 -- Assumes nothing.
-use mathlib.Core.Path.{_≡_, refl, sym, ap, _∙_}
+use mathlib.Core.Path.{_≡_, refl, sym, _∙_}
 use mathlib.Core.List.{List, [], _∷_}
 use Prim.Native.Nat.{ℕ, zero, suc, _+_, _<_}
 use native.Mathlib.Omega.{arith}
@@ -35,11 +35,6 @@ module _ (W R N Q n : ℕ) where
   answerAt held ps m = getD (answers held ps) m (Refused (refusal 0 0))
 
   -- lay's entries are of these answers
-  pub length-entries : (k : ℕ) (held : List (List Rows)) (ps : List Piece) → length (entriesFrom W R N Q n k held ps) ≡ length ps
-  unfolding entriesFrom
-  length-entries k held [] = refl
-  length-entries k held (p ∷ ps) = ap suc (length-entries (k + 1) (after held p) ps)
-
   pub fates-are : (k : ℕ) (held : List (List Rows)) (ps : List Piece) (m : ℕ) →
       fateAt (entriesFrom W R N Q n k held ps) m ≡ fateOf (answerAt held ps m)
   unfolding entriesFrom answers answerAt

@@ -2,9 +2,8 @@
 -- and the count of question 14 is that of the cells. Each is a law of the tables, with what it asks taken from the passed tests.
 -- Assumes nothing.
 use mathlib.Core.Path.{_≡_}
-use mathlib.Core.Bool.{true}
 use mathlib.Core.List.{List}
-use mathlib.Core.Option.{Option, none, some}
+use mathlib.Core.Option.{none, some}
 use Prim.Native.Nat.{ℕ, _≤_, _<_}
 use Rattle.defs.specs.declared.Position.{Position}
 use Rattle.defs.specs.Meaning.Outline.{sides}

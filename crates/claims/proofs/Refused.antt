@@ -1,7 +1,7 @@
 -- Demand 1 from the steps of the calls: each says of a refusal that what was lent stays, and of a work buffer that it is zeros.
 -- Assumes nothing.
-use mathlib.Core.Path.{_≡_, refl, ap, sym, _∙_}
-use mathlib.Core.List.{List, [], _∷_}
+use mathlib.Core.Path.{_≡_, refl, ap, _∙_}
+use mathlib.Core.List.{List}
 use Prim.Native.Nat.{ℕ, zero, suc}
 use lib.ListN.{length, getD, replicate, length-replicate}
 use Rattle.defs.specs.Computing.Calls.{OpenLeaves, PlaceLeaves, coverOutput, cleared}

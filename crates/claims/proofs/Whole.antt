@@ -4,35 +4,34 @@
 use mathlib.Core.Path.{_≡_, refl, sym, ap, subst, subst₂, _∙_}
 use mathlib.Core.Logic.{_↔_, _≢_, _⊎_, inl, inr, ⊎-elim}
 use mathlib.Core.Bool.{Bool, true, false, false≢true, true≢false}
-use mathlib.Core.List.{List, [], _∷_}
-use mathlib.Core.Option.{Option, none, some}
-use Prim.Native.Nat.{ℕ, zero, suc, _+_, _≤_, _<_}
+use mathlib.Core.List.{List, []}
+use mathlib.Core.Option.{none, some}
+use Prim.Native.Nat.{ℕ, zero, suc, _≤_, _<_}
 use native.Mathlib.Omega.{arith}
 use lib.ListN.{length, getD}
 use Rattle.defs.specs.declared.Position.{Position}
 use Rattle.defs.specs.declared.Placing.{Placing}
 use Rattle.defs.specs.declared.Placing.the-variants.{Placed, Refused}
 use Rattle.defs.specs.Answer.{numberOf}
-use Rattle.defs.specs.Meaning.Outline.{sides, KeepsOrder}
+use Rattle.defs.specs.Meaning.Outline.{KeepsOrder}
 use Rattle.defs.specs.Meaning.Turn.{turned, Allows}
-use Rattle.defs.specs.Meaning.Strip.{WellFormed, Holds, Limits, Length, widthOf, resolutionOf, columnsOf}
-use Rattle.defs.specs.Meaning.Placing.{cellsAt, Free, Fits, Best}
+use Rattle.defs.specs.Meaning.Strip.{WellFormed, Holds, Length, widthOf, resolutionOf, columnsOf}
+use Rattle.defs.specs.Meaning.Placing.{cellsAt, Free, Best}
 use Rattle.defs.specs.Meaning.Question.{Asked7to12, AskedBefore13, Question5, Question10, Question13, Question14}
-use Rattle.defs.specs.Computing.Test.{any}
 use Rattle.defs.specs.Computing.Cells.{Rows, inRows}
-use Rattle.defs.specs.Computing.Words.{wellFormedb, recordsOf, runsOf, columnsRuns}
+use Rattle.defs.specs.Computing.Words.{wellFormedb, recordsOf, columnsRuns}
 use Rattle.defs.specs.Computing.Search.{bestBelow, entered}
-use Rattle.defs.specs.Computing.Calls.{placeOn, placeAnswer, PlaceLeaves, OpenLeaves, Left, outlineNo, q9b, q12b, q14b}
+use Rattle.defs.specs.Computing.Calls.{placeOn, placeAnswer, PlaceLeaves, OpenLeaves, Left, outlineNo, q9b, q14b}
 use Rattle.geom.proofs.Stretches.{no-rows}
 use Rattle.geom.proofs.Checks.{Passes, checks}
-use Rattle.claims.specs.Trace.{Call, Trace, Places, Occupied}
-use Rattle.claims.specs.Demand3.{Demand3, Demand3-holds, StripIs}
+use Rattle.claims.specs.Trace.{Trace, Places, Occupied}
+use Rattle.claims.specs.Demand3.{Demand3, Demand3-holds}
 use Rattle.claims.proofs.Refusals.{outlineNo-not-13}
 use Rattle.claims.proofs.Invariant.{Kept, kept, never-5}
 use Rattle.tables.proofs.Tables.{Table, In}
 use Rattle.claims.proofs.Passing.{asked, some-side, best-found, none-found, question-14}
 use Rattle.claims.proofs.Fates.{Fate, fate-of, early, short, no-place, full, placed}
-use Rattle.tables.proofs.Sets.{Same, same-sym, fits-same, best-same, q13-same, q14-same}
+use Rattle.tables.proofs.Sets.{Same, same-sym, best-same, q13-same, q14-same}
 use Rattle.laws.proofs.Formed.{formed}
 use Rattle.tables.proofs.Held.{table-of, holds-table}
 use Rattle.tables.proofs.Entered.{entered-cells}

@@ -2,16 +2,16 @@
 use mathlib.Core.Path.{_≡_}
 use mathlib.Core.Logic.{_↔_, _≢_}
 use mathlib.Core.List.{List}
-use Prim.Native.Nat.{ℕ, zero, suc, _≤_, _<_}
+use Prim.Native.Nat.{ℕ, _≤_, _<_}
 use lib.ListN.{length}
 use Rattle.defs.specs.declared.Position.{Position}
 use Rattle.defs.specs.Answer.{numberOf}
 use Rattle.defs.specs.Meaning.Outline.{Inside}
 use Rattle.defs.specs.Meaning.Cell.{Cells}
 use Rattle.defs.specs.Meaning.Strip.{Length, WellFormed, Holds, widthOf, resolutionOf, columnsOf}
-use Rattle.defs.specs.Meaning.Placing.{moved, OnStrip, Free, Fits, Later, Best}
+use Rattle.defs.specs.Meaning.Placing.{moved, OnStrip, Free, Best}
 use Rattle.defs.specs.Meaning.Question.{AskedBefore13, Question13, Question14}
-use Rattle.claims.specs.Trace.{Call, Trace, Places, Occupied}
+use Rattle.claims.specs.Trace.{Trace, Places, Occupied}
 
 module _ {W R N : ℕ} (x : Trace W R N) where
   abbrev outline : ℕ → List ℕ

@@ -1,7 +1,7 @@
 -- Lay is one list of place calls, so that demand 3 covers it; its totals are those of its output. Assumes nothing.
 use mathlib.Core.Path.{_≡_}
 use mathlib.Core.List.{List, []}
-use Prim.Native.Nat.{ℕ, zero, suc, _+_, _*_, _≤_, _<_}
+use Prim.Native.Nat.{ℕ, _+_, _*_, _<_}
 use lib.ListN.{length, getD}
 use Rattle.defs.specs.declared.Laying.the-variants.{Laid}
 use Rattle.defs.specs.declared.Totals.{Totals}

@@ -2,7 +2,7 @@
 -- Assumes nothing.
 use mathlib.Core.Path.{_≡_}
 use mathlib.Core.List.{List}
-use Prim.Native.Nat.{ℕ, zero, suc, _<_}
+use Prim.Native.Nat.{ℕ, suc, _<_}
 use Rattle.defs.specs.declared.Position.{Position}
 use Rattle.defs.specs.declared.Opening.the-variants.{Opened}
 use Rattle.defs.specs.declared.Placing.{Placing}

@@ -4,7 +4,7 @@ use mathlib.Core.Path.{_≡_, refl, ap, sym, subst, _∙_}
 use mathlib.Core.Bool.{Bool, true, false, not, _&&_}
 use mathlib.Core.Logic.{_⊎_, inl, inr, ⊎-elim}
 use mathlib.Core.List.{List}
-use Prim.Native.Nat.{ℕ, zero, suc, _+_, _*_, _-_, _/_, _%_, _≤_, _<_, min, max}
+use Prim.Native.Nat.{ℕ, _+_, _*_, _-_, _/_, _%_, _≤_, _<_, min, max}
 use native.Mathlib.Omega.{arith}
 use lib.ListN.{length, getD}
 use borrow.Author.Tests.{lt-ltb, le-ltb}
@@ -207,12 +207,15 @@ module _ {v : List ℕ} {a b : ℕ} {h0 h1 w : List ℕ} {m : ℕ} (l : Loaded v
       and-true true = refl
       and-true false = refl
 
+  pub pair-row : Rising h0 w m → Rising h1 w m → (y : ℕ) → Paired h0 h1 w m y → SlabRow v a b y
+  pair-row r0 r1 y g =
+      let p = pair-gap (l .fits) r0 r1 (g .at) y (g .even) (g .below) (g .between) in
+      record { opened = record { i = l .idx (g .at); opens = gap-opens (g .at) y p }; row = p .row }
+
   pub slab-adds : {lo hi lo' hi' : List ℕ} {n r : ℕ} → Rising h0 w m → Rising h1 w m → Adds (Paired h0 h1 w m) lo hi lo' hi' n r → Adds (SlabRow v a b) lo hi lo' hi' n r
   slab-adds r0 r1 s =
       adds-same
-      (λ y g.
-      let p = pair-gap (l .fits) r0 r1 (g .at) y (g .even) (g .below) (g .between) in
-      record { opened = record { i = l .idx (g .at); opens = gap-opens (g .at) y p }; row = p .row })
+      (pair-row r0 r1)
       (λ y t.
       let o = t .opened .opens in
       let p = l .onto (t .opened .i) (o .here) (o .edge) in

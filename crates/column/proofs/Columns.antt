@@ -14,7 +14,8 @@ use Rattle.slabs.specs.Slab.{InUnits}
 use Rattle.entries.specs.Edges.{AllFit, NextAt}
 use Rattle.entries.proofs.Entries.{all-fit}
 use Rattle.join.specs.Runs.{Apart}
-use Rattle.column.specs.Rows.{Adds, Room, Buffers, Kept, Stock, HeldAt, Working, ColumnOf}
+use Rattle.section.specs.Slabs.{Kept, Stock, HeldAt}
+use Rattle.column.specs.Rows.{Adds, Room, Buffers, Working, ColumnOf}
 use Rattle.column.proofs.Adding.{room-adds, room-more}
 
 no-runs : (l h : List ℕ) → Apart l h 0

@@ -3,5 +3,4 @@ pub mod Pairing
 pub mod Adding
 pub mod Parts
 pub mod Units
-pub mod Cuts
 pub mod Columns

@@ -21,7 +21,7 @@ use Rattle.entries.specs.Edges.{Fit, Loaded, AllFit, Rising}
 use Rattle.entries.proofs.Entries.{below-one}
 use Rattle.column.specs.Rows.{Paired, SlabRow, Adds, AddsPart, onLine, Heights, Parted}
 use Rattle.column.proofs.Adding.{slab-adds}
-use Rattle.column.proofs.Units.{reaches-left, reaches-right}
+use Rattle.section.proofs.Cuts.{reaches-left, reaches-right}
 
 -- what the code computes in either case
 pub line-up : (p q l d : ℕ) → p < q → p + (q - p) / l * d ≡ onLine p q l d

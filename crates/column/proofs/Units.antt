@@ -25,23 +25,6 @@ use Rattle.slabs.specs.Slab.{Neat, InSlab, InUnits}
 use Rattle.slabs.proofs.Cut.{slab-covered, covered-slab}
 use Rattle.column.specs.Rows.{SlabRow, Adds, Room, Buffers}
 
--- an edge that spans the first and the last unit column of a slab reaches over it
-pub reaches-left : (e : Edge) (a : ℕ) → spans e a ≡ true → e .xl ≤ a
-reaches-left e a s = leb-true (e .xl) a (and-left (leb (e .xl) a) _ s)
-
-pub reaches-right : (e : Edge) (a b : ℕ) → a < b → spans e (b - 1) ≡ spans e a → spans e a ≡ true → b ≤ e .xr
-reaches-right e a b l h s = omega (arith, ltb-true (b - 1) (e .xr) (and-right (leb (e .xl) (b - 1)) _ (h ∙ s)))
-
--- a unit column is a slab
-pub neat-one : (v : List ℕ) (a : ℕ) → KeepsOrder v → Neat v a (a + 1)
-unfolding KeepsOrder
-neat-one v a keeps =
-    record {
-      wide = omega arith;
-      steady = λ i k l f t. let e : k ≡ a = omega arith in ap (λ (n : ℕ). spans (edgeAt v i) n) e;
-      order = λ i j li lj si sj. in-order v a (keeps a) i j (ap₂ _&&_ (lt-ltb i (sides v) li) si) (ap₂ _&&_ (lt-ltb j (sides v) lj) sj);
-    }
-
 module _ {o : List ℕ} {l r f h : ℕ} (k : Lent o) (b : BoundsOf o l r f h) where
   low-turned : (t i : ℕ) → t ≤ 3 → i < sides o → vy (turned o t) i ≤ 16000
   low-turned t i m s =

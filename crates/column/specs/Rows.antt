@@ -9,8 +9,9 @@ use lib.Dec.{ltb}
 use lib.ListN.{length, getD}
 use Rattle.join.specs.Runs.{Apart, Holds}
 use Rattle.defs.specs.Meaning.Outline.{sides}
-use Rattle.slabs.specs.Slab.{InSlab, InUnits, Neat}
-use Rattle.entries.specs.Edges.{upper, Loaded, NextAt, Rising}
+use Rattle.slabs.specs.Slab.{InSlab, InUnits}
+use Rattle.entries.specs.Edges.{upper, NextAt}
+use Rattle.section.specs.Slabs.{Kept}
 
 -- row y lies between entry x and the next one, which is higher
 pub record Between (h0 h1 w : List ℕ) (x y : ℕ) : Type 0 where
@@ -51,33 +52,6 @@ pub record Buffers (h0 h1 w l h : List ℕ) : Type 0 where
   pub wide : length w ≡ 64
   pub lows : 8001 ≤ length l
   pub highs : 8001 ≤ length h
-
--- where a slab from a may end: not beyond the next vertex
-pub record CutAt (v : List ℕ) (a n r : ℕ) : Type 0 where
-  pub more : a < r
-  pub next : NextAt v a n r
-
--- the entries of a neat slab are loaded, in the order of their heights at either side
-pub record Kept (v : List ℕ) (a b m : ℕ) (h0 h1 w : List ℕ) : Type 0 where
-  pub neat : Neat v a b
-  pub loaded : Loaded v a b h0 h1 w (sides v) m
-  pub left : Rising h0 w m
-  pub right : Rising h1 w m
-
--- the room for the entries of a slab, those of the slab kept from before, if it is not empty, and the next vertex after it
-pub record Stock (v : List ℕ) (a b m c : ℕ) (h0 h1 w : List ℕ) : Type 0 where
-  pub left : length h0 ≡ 64
-  pub right : length h1 ≡ 64
-  pub wide : length w ≡ 64
-  pub kept : a < b → Kept v a b m h0 h1 w
-  pub next : NextAt v b (sides v) c
-
--- the slab that is kept reaches over x
-pub record HeldAt (v : List ℕ) (x a b m c : ℕ) (h0 h1 w : List ℕ) : Type 0 where
-  pub from : a ≤ x
-  pub to : x < b
-  pub kept : Kept v a b m h0 h1 w
-  pub next : NextAt v b (sides v) c
 
 -- The height at distance d on the line from height p to height q, l apart. Exact where l divides the difference of p and q.
 unfoldable pub onLine : ℕ → ℕ → ℕ → ℕ → ℕ

@@ -1,6 +1,6 @@
 -- From the tests and the written runs to the step of cover.
 -- Assumes nothing.
-use mathlib.Core.Path.{_≡_, refl, sym, ap, _∙_}
+use mathlib.Core.Path.{_≡_, sym, ap, _∙_}
 use mathlib.Core.Bool.{Bool, true, false, cond}
 use mathlib.Core.List.{List, [], _∷_, _++_}
 use Prim.Native.Nat.{ℕ, zero, suc, _+_, _*_, _-_, _/_, _^_, _≤_, _<_}
@@ -11,20 +11,18 @@ use lib.ListN.{length, take, drop}
 use lib.Seq.{sets, sets-eq, take-at}
 use Rattle.defs.specs.declared.Covering.{Covering}
 use Rattle.defs.specs.declared.Covering.the-variants.{Runs, Refused as NotCovered}
-use Rattle.defs.specs.Meaning.Outline.{vx, vy, sides, KeepsOrder}
-use Rattle.defs.specs.Meaning.Turn.{turned, greatest, extentX, extentY}
+use Rattle.defs.specs.Meaning.Outline.{KeepsOrder}
+use Rattle.defs.specs.Meaning.Turn.{turned, extentX, extentY}
 use Rattle.defs.specs.Meaning.Placing.{columnsFor}
 use Rattle.defs.specs.Computing.Test.{listFrom}
 use Rattle.defs.specs.Computing.Cells.{Rows, joinRow, stretches, coveredb, pieceRuns, countRuns}
-use Rattle.defs.specs.Computing.Words.{resolutionb}
-use Rattle.defs.specs.Computing.Calls.{refusal, rowsWords, runsWords, coverAnswer, coverOutput, CoverStep}
+use Rattle.defs.specs.Computing.Calls.{refusal, runsWords, coverAnswer, coverOutput, CoverStep}
 use Rattle.laws.proofs.Questions.{question-3-R}
 use Rattle.geom.proofs.Checks.{keeps-decides}
 use Rattle.outline.specs.Vertex.{Lent}
 use Rattle.checks.proofs.Turned.{lent-of}
 use Rattle.cells.specs.Put.{PutRuns, Resolution}
 use Rattle.geom.proofs.RunWords.{runs-length}
-use Rattle.cover.specs.Turn.{turnNo}
 use Rattle.cover.specs.Written.{CoverRuns, Counted}
 use Rattle.cover.proofs.Answers.{passed, cover-11, cover-12, cover-runs}
 

@@ -59,7 +59,7 @@ fn write_runs(o: &[u16], b: Bounds, t: u16, r: u16, w: u16, k: usize, kept: &[u1
         cells::put_runs(o, b, t, r, w, out);
         return;
     }
-    cells::copy_front(kept, 3 * k, out);
+    words::copy_in(&kept[..3 * k], out, 0);
 }
 
 // Questions 11 and 12 of an outline that passes 7 to 10 in turn t; then its runs. Up to KEPT_RUNS runs are kept while they are counted,

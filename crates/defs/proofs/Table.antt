@@ -5,8 +5,7 @@ use mathlib.Core.Path.{_≡_, refl}
 use mathlib.Core.Bool.{true, false}
 use mathlib.Core.List.{List, [], _∷_, _++_}
 use Prim.Native.Nat.{ℕ}
-use lib.ListN.{replicate, length, take}
-use Rattle.defs.specs.declared.Figures.{Figures}
+use lib.ListN.{replicate, take}
 use Rattle.defs.specs.declared.Position.{Position}
 use Rattle.defs.specs.declared.Placing.{Placing}
 use Rattle.defs.specs.declared.Placing.the-variants.{Placed, Refused}
@@ -17,7 +16,7 @@ use Rattle.defs.specs.declared.Writing.the-variants.{Written, Refused as
 use Rattle.defs.specs.declared.Laying.the-variants.{Laid, Refused as NotLaid}
 use Rattle.defs.specs.Meaning.Sheet.{Piece, listWords}
 use Rattle.defs.specs.Computing.Cells.{Rows, pieceRuns}
-use Rattle.defs.specs.Computing.Words.{wellFormedb, columnsRuns}
+use Rattle.defs.specs.Computing.Words.{wellFormedb}
 use Rattle.defs.specs.Computing.Search.{position}
 use Rattle.defs.specs.Computing.Calls.{refusal, openAnswer, coverAnswer, coverOutput, placeAnswer, openedStrip, placedStrip, listAnswers, Lent}
 use Rattle.defs.specs.Computing.Sheets.{sheetBytes, readAnswer, readOutput, writeAnswer, writeOutput}

@@ -13,7 +13,6 @@ use lib.ListN.{length, getD}
 use borrow.Author.Tests.{lt-ltb, le-ltb, eq-eqb, ne-eqb}
 use Rattle.laws.proofs.Lists.{length-listFrom}
 use Rattle.defs.specs.Computing.Test.{listFrom}
-use Rattle.defs.specs.Computing.Cells.{countRuns}
 use Rattle.defs.specs.Computing.Words.{heads, columnWords, runWords, freeWords}
 use Rattle.tables.specs.Flat.{rowAt, rowsFrom, rowsIn, tableOf, Flat}
 use Rattle.tables.proofs.Flats.{column-count, after-column, count-is}

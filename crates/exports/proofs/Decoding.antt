@@ -1,14 +1,14 @@
 -- What a decoded strip says of the definitions here.
 -- Assumes nothing.
 use mathlib.Core.Path.{_≡_, refl, sym, ap, _∙_}
-use mathlib.Core.Bool.{true, false}
+use mathlib.Core.Bool.{false}
 use mathlib.Core.List.{List}
 use Prim.Native.Nat.{ℕ, _≤_}
 use native.Mathlib.Omega.{arith}
 use lib.ListN.{length}
 use Rattle.defs.specs.Meaning.Strip.{widthOf, resolutionOf, columnsOf}
-use Rattle.defs.specs.Computing.Cells.{Rows, countRuns}
-use Rattle.defs.specs.Computing.Words.{wellFormedb, recordsOf, columnsRuns, written}
+use Rattle.defs.specs.Computing.Cells.{countRuns}
+use Rattle.defs.specs.Computing.Words.{wellFormedb, recordsOf, written}
 use Rattle.laws.proofs.Questions.{length-decides}
 use Rattle.laws.proofs.Formed.{formed}
 use Rattle.tables.specs.Flat.{tableOf}

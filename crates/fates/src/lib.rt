@@ -9,7 +9,7 @@ ghost use Rattle.defs.specs.Answer.{fateWords};
 ghost use Rattle.defs.specs.Meaning.Placing.{endColumn};
 ghost use Rattle.defs.specs.Computing.Lay.{fateOf};
 ghost use Rattle.outline.specs.Vertex.{Lent};
-ghost use Rattle.fates.specs.Fates.{endOf, tallied, Few};
+ghost use Rattle.fates.specs.Fates.{endOf, lowerBy, tallied, Few};
 use defs::Entry;
 use defs::Fate;
 use defs::Placing;
@@ -17,12 +17,14 @@ use defs::Placing;
 // Words of an entry.
 pub const ENTRY_WORDS: usize = 4;
 
-// The ordinal of the next piece, the pieces placed and the columns used so far, and whether the second table is current.
+// The ordinal of the next piece, the pieces placed and the columns used so far, whether the second table is current, and before which
+// column no free position of a copy of the last piece ends.
 pub struct Tally {
     pub ordinal: u16,
     pub placed: u16,
     pub used: u16,
     pub second: bool,
+    pub lower: u16,
 }
 
 pub fn fate_of(a: Placing) -> Fate
@@ -62,23 +64,38 @@ pub fn end_of(o: &[u16], r: u16, a: Placing) -> usize
     }
 }
 
-pub fn counted(t: Tally, a: Placing, end: u16) -> Tally
-    requires { ⌜ Few t ⌝ }
-    ensures { λ r. ⌜ r ≡ tallied t a end ⌝ }
+// Before which of n columns no free position of a copy ends, after an answer: 13 says that there is none at all.
+fn lower_of(a: Placing, end: u16, n: u16) -> u16
+    requires { ⌜ n ≤ 4096 ⌝ }
+    ensures { λ r. ⌜ r ≡ lowerBy a end n ⌝ }
+{
+    match a {
+        Placing::Placed(p) => end,
+        Placing::Refused(r) => { if r.number == 13 { n + 1 } else { 0 } }
+    }
+}
+
+// The tally after an answer, on a strip of n columns.
+pub fn counted(t: Tally, a: Placing, end: u16, n: u16) -> Tally
+    requires { ⌜ Few t × (n ≤ 4096) ⌝ }
+    ensures { λ r. ⌜ r ≡ tallied t a end n ⌝ }
 {
     let used = numbers::more(t.used, end);
+    let lower = lower_of(a, end, n);
     match a {
         Placing::Placed(p) => Tally {
             ordinal: t.ordinal + 1,
             placed: t.placed + 1,
             used,
             second: !t.second,
+            lower,
         },
         Placing::Refused(r) => Tally {
             ordinal: t.ordinal + 1,
             placed: t.placed,
             used,
             second: t.second,
+            lower,
         },
     }
 }

@@ -6,13 +6,13 @@ use mathlib.Core.Bool.{Bool, true, false, not, _&&_, true≢false}
 use mathlib.Core.Logic.{_⊎_, inl, inr, ⊎-elim}
 use Prim.Native.Nat.{ℕ, zero, suc, _+_, _*_, _-_, _%_, _≤_, _<_}
 use native.Mathlib.Omega.{arith}
-use native.Mathlib.Nat.{mul-le-mul-left, mul-le-mul-right, mul-lt-mul-of-pos-left, mul-lt-mul-of-pos-right, lt-of-mul-lt-mul-right, le-of-mul-le-mul-right}
+use native.Mathlib.Nat.{mul-le-mul-left, mul-le-mul-right, mul-lt-mul-of-pos-right, lt-of-mul-lt-mul-right}
 use lib.Dec.{ltb}
 use borrow.Author.Tests.{lt-ltb, le-ltb, ltb-true, ltb-false, not-true}
 use Rattle.laws.proofs.Tests.{and-left, and-right}
 use Rattle.defs.specs.Meaning.Outline.{one}
 use Rattle.defs.specs.Meaning.Outline.{countTo}
-use Rattle.geom.proofs.Strip.{le-or-lt, lt-or-le, Between, strip, strictly}
+use Rattle.geom.proofs.Strip.{lt-or-le, Between, strip, strictly}
 use Rattle.geom.proofs.Line.{keeps}
 use Rattle.geom.proofs.Parity.{count-same}
 

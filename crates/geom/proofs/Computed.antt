@@ -1,23 +1,23 @@
 -- The computed test of a unit cell says that the cell is covered.
 -- Assumes nothing.
 use mathlib.Core.Path.{_≡_, refl, ap, ap₂, sym, subst, _∙_}
-use mathlib.Core.Bool.{Bool, true, false, not, _&&_, _||_, false≢true, true≢false}
+use mathlib.Core.Bool.{Bool, true, false, not, _&&_, _||_}
 use mathlib.Core.List.{List}
 use mathlib.Core.Logic.{_⊎_, inl, inr, ⊎-elim, _↔_}
-use Prim.Native.Nat.{ℕ, zero, suc, _+_, _*_, _-_, _/_, _%_, _≤_, _<_, min, max}
+use Prim.Native.Nat.{ℕ, _+_, _*_, _-_, _%_, _≤_, _<_, min, max}
 use native.Mathlib.Omega.{arith}
-use native.Mathlib.Nat.{mul-le-mul-right, mul-lt-mul-of-pos-right, lt-of-mul-lt-mul-right}
-use lib.Dec.{ltb, leb, eqb}
+use native.Mathlib.Nat.{mul-lt-mul-of-pos-right, lt-of-mul-lt-mul-right}
+use lib.Dec.{ltb, eqb}
 use borrow.Author.Tests.{lt-ltb, ltb-true, eqb-true, eq-eqb}
-use Rattle.defs.specs.Meaning.Outline.{Edge, edgeAt, sides, spans, width, height, countTo, Ordered, KeepsOrder}
+use Rattle.defs.specs.Meaning.Outline.{edgeAt, sides, spans, height, countTo, Ordered, KeepsOrder}
 use Rattle.defs.specs.Meaning.Cell.{Covered}
 use Rattle.defs.specs.Computing.Test.{anyTo, allTo}
 use Rattle.defs.specs.Computing.Cells.{higher, notHigher, reaches, rises, openAbove, opens, coveredb}
 use Rattle.geom.proofs.Strip.{lt-or-le}
 use Rattle.geom.proofs.Parity.{count-same}
-use Rattle.laws.proofs.Tests.{and-left, and-right, allTo-at, allTo-of, Some, anyTo-at, anyTo-of}
-use Rattle.geom.proofs.Column.{clash, and-last, Top, topmost, count-split, Met, mid, rank, not-lower, mid-trans, mid-irr}
-use Rattle.geom.proofs.Cells.{Unit-column, narrow, widen}
+use Rattle.laws.proofs.Tests.{and-left, and-right, allTo-at, allTo-of, anyTo-at, anyTo-of}
+use Rattle.geom.proofs.Column.{Top, topmost, count-split, Met, mid, rank, not-lower, mid-trans, mid-irr}
+use Rattle.geom.proofs.Cells.{narrow, widen}
 use Rattle.geom.proofs.Cover.{S, H0, H1, W, positive, in-order, even, cover, meet}
 
 all4 : {a b c d : Bool} → a ≡ true → b ≡ true → c ≡ true → d ≡ true → (a && (b && (c && d))) ≡ true

@@ -1,17 +1,16 @@
 -- Which cells of a unit column are covered, by the order of the edges in it.
 -- Assumes nothing.
 use mathlib.Core.Path.{_≡_, refl, ap, ap₂, sym, _∙_, subst₂}
-use mathlib.Core.Bool.{Bool, true, false, not, _&&_, _||_}
+use mathlib.Core.Bool.{Bool, true, false, not, _&&_}
 use mathlib.Core.List.{List}
-use mathlib.Core.Logic.{_⊎_, inl, inr, ⊎-elim}
-use Prim.Native.Nat.{ℕ, zero, suc, _+_, _*_, _-_, _/_, _%_, _≤_, _<_}
+use Prim.Native.Nat.{ℕ, _+_, _*_, _-_, _/_, _%_, _<_}
 use native.Mathlib.Omega.{arith}
-use native.Mathlib.Nat.{mul-le-mul-left, mul-le-mul-right, mul-pos, div-add-mod, mod-lt}
+use native.Mathlib.Nat.{mul-pos}
 use lib.Dec.{ltb, leb, eqb}
 use lib.Arith.{digits-div, digits-mod}
-use borrow.Author.Tests.{lt-ltb, le-ltb, le-leb, ltb-true, ltb-false, leb-true, eqb-true, eqb-false, ne-eqb, eq-eqb}
+use borrow.Author.Tests.{lt-ltb, ltb-true, leb-true, ne-eqb, eq-eqb}
 use Rattle.laws.proofs.Tests.{and-left, and-right}
-use Rattle.defs.specs.Meaning.Outline.{Edge, one, spans, height, width, passesBelow, passesThrough, changeOrder, lower}
+use Rattle.defs.specs.Meaning.Outline.{Edge, spans, height, width, passesBelow, passesThrough, changeOrder}
 use Rattle.defs.specs.Meaning.Outline.{countTo, countBelow, edgeAt, sides, Inside, Ordered}
 use Rattle.defs.specs.Meaning.Cell.{Covered}
 use Rattle.geom.proofs.Scale.{height-scale}

@@ -1,28 +1,24 @@
 -- Covered cells lie within the extent of the outline.
 -- Assumes nothing.
-use mathlib.Core.Path.{_≡_, refl, ap, ap₂, sym, subst, _∙_}
-use mathlib.Core.Bool.{Bool, true, false, cond, _&&_}
-use mathlib.Core.List.{List, [], _∷_}
-use mathlib.Core.Logic.{_⊎_, inl, inr, ⊎-elim, _↔_}
-use Prim.Native.Nat.{ℕ, zero, suc, _+_, _*_, _-_, _/_, _%_, _≤_, _<_, max}
+use mathlib.Core.Path.{_≡_, refl, ap, _∙_}
+use mathlib.Core.Bool.{Bool, true, false, cond}
+use mathlib.Core.List.{List}
+use mathlib.Core.Logic.{_⊎_, ⊎-elim}
+use Prim.Native.Nat.{ℕ, zero, suc, _+_, _*_, _-_, _/_, _≤_, _<_, max}
 use native.Mathlib.Omega.{arith}
-use native.Mathlib.Nat.{mul-le-mul-left, mul-le-mul-right, lt-of-mul-lt-mul-right, div-add-mod, mod-lt}
+use native.Mathlib.Nat.{mul-le-mul-right, lt-of-mul-lt-mul-right, div-add-mod, mod-lt}
 use lib.Dec.{ltb, leb, eqb}
-use lib.ListN.{length, getD}
-use borrow.Author.Tests.{ltb-true, leb-true, eqb-true, eqb-false}
+use lib.ListN.{length}
+use borrow.Author.Tests.{ltb-true, leb-true, eqb-false}
 use Rattle.laws.proofs.Tests.{and-left, and-right}
 use Rattle.defs.specs.Meaning.Outline.{Edge, edgeAt, edgeBetween, after, vx, vy, sides, spans, width, height, KeepsOrder}
 use Rattle.defs.specs.Meaning.Cell.{Covered}
-use Rattle.defs.specs.Meaning.Turn.{greatest, outlineFrom, turned, extentX, extentY}
+use Rattle.defs.specs.Meaning.Turn.{greatest, outlineFrom, turned}
 use Rattle.defs.specs.Meaning.Placing.{columnsFor}
-use Rattle.defs.specs.Computing.Test.{listFrom}
-use Rattle.defs.specs.Computing.Cells.{Rows, coveredb, stretches, inRows, pieceRuns}
 use Rattle.geom.proofs.Strip.{lt-or-le}
-use Rattle.geom.proofs.Column.{and-last, Met}
+use Rattle.geom.proofs.Column.{and-last}
 use Rattle.geom.proofs.Cells.{narrow}
-use Rattle.geom.proofs.Cover.{S, H0, H1, W, meet}
-use Rattle.geom.proofs.Computed.{cell-covered}
-use Rattle.geom.proofs.Stretches.{stretches-are}
+use Rattle.geom.proofs.Cover.{W, meet}
 
 pub record Bounded (w h : ℕ) (e : Edge) : Type 0 where
   pub right : e .xr ≤ w

@@ -1,22 +1,19 @@
 -- The cells of the moved piece are the cells of the turned outline, c columns to the right and y rows up.
 -- Assumes nothing.
-use mathlib.Core.Path.{_≡_, refl, ap, ap₂, sym, subst, _∙_}
-use mathlib.Core.Bool.{Bool, true, false, _&&_, false≢true}
-use mathlib.Core.List.{List, [], _∷_}
-use mathlib.Core.Logic.{_⊎_, inl, inr, ⊎-elim, _↔_}
+use mathlib.Core.Path.{_≡_, refl, ap, sym, subst, _∙_}
+use mathlib.Core.Bool.{Bool, true, false}
+use mathlib.Core.List.{List}
 use Prim.Native.Nat.{ℕ, zero, suc, _+_, _*_, _-_, _/_, _%_, _≤_, _<_}
 use native.Mathlib.Omega.{arith}
-use native.Mathlib.Nat.{mul-le-mul-left, mul-le-mul-right, add-mul-mod-self-right, div-add-mod, mod-lt, lt-of-mul-lt-mul-right}
+use native.Mathlib.Nat.{mul-le-mul-right, add-mul-mod-self-right, div-add-mod, mod-lt, lt-of-mul-lt-mul-right}
 use lib.Dec.{ltb, leb}
 use borrow.Author.Tests.{ltb-true, leb-true}
 use Rattle.laws.proofs.Tests.{and-left, and-right, Some}
-use Rattle.defs.specs.declared.Position.{Position}
-use Rattle.defs.specs.Meaning.Outline.{Edge, edgeAt, vx, vy, sides, spans, width, height, passesBelow, passesThrough, one, countTo, countBelow, Inside}
-use Rattle.defs.specs.Meaning.Turn.{outlineFrom, turned}
+use Rattle.defs.specs.Meaning.Outline.{Edge, edgeAt, sides, spans, width, height, passesBelow, passesThrough, one, countTo, countBelow, Inside}
+use Rattle.defs.specs.Meaning.Turn.{turned}
 use Rattle.defs.specs.Meaning.Cell.{Covered}
 use Rattle.defs.specs.Meaning.Placing.{moved}
 use Rattle.geom.proofs.Parity.{count-same}
-use Rattle.geom.proofs.Extent.{sides-turned}
 use Rattle.geom.proofs.Shift.{shiftEdge, shifted, sides-shifted, edge-shifted, below-shift, through-shift}
 
 some-counted : (f : ℕ → Bool) (n : ℕ) → 0 < countTo f n → Some f n

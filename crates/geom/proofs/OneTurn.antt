@@ -1,9 +1,9 @@
 -- Where one turn is given, its mask is 2 ^ t: that turn is the only one allowed, so questions 10 to 12 ask of it alone.
 -- Assumes nothing.
-use mathlib.Core.Path.{_≡_, refl, sym, ap, _∙_}
-use mathlib.Core.Bool.{Bool, true, false, and-true}
+use mathlib.Core.Path.{_≡_, ap}
+use mathlib.Core.Bool.{true, and-true}
 use mathlib.Core.List.{List}
-use Prim.Native.Nat.{ℕ, zero, suc, _*_, _^_, _≤_, _<_, max}
+use Prim.Native.Nat.{ℕ, zero, suc, _*_, _^_, _≤_}
 use native.Mathlib.Omega.{arith}
 use lib.Dec.{leb, ltb}
 use Rattle.defs.specs.Meaning.Turn.{turned, extentX}

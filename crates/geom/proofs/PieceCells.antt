@@ -1,19 +1,18 @@
 -- Demand 2, first sentence, for the computed runs: a row lies in a run exactly when its cell holds a point inside.
 -- Assumes nothing.
-use mathlib.Core.Path.{_≡_, refl, ap, sym, subst, _∙_}
-use mathlib.Core.Bool.{Bool, true, false, false≢true}
-use mathlib.Core.List.{List, [], _∷_}
-use mathlib.Core.Logic.{_⊎_, inl, inr, ⊎-elim, _↔_}
-use Prim.Native.Nat.{ℕ, zero, suc, _+_, _*_, _≤_, _<_}
+use mathlib.Core.Path.{_≡_, ap, sym, subst, _∙_}
+use mathlib.Core.Bool.{true}
+use mathlib.Core.List.{List, []}
+use mathlib.Core.Logic.{_⊎_, inl, inr, _↔_}
+use Prim.Native.Nat.{ℕ, _≤_, _<_}
 use native.Mathlib.Omega.{arith}
-use native.Mathlib.Nat.{add-zero}
-use lib.ListN.{length, getD}
+use lib.ListN.{getD}
 use Rattle.laws.proofs.Lists.{listFrom-at, listFrom-past}
 use Rattle.defs.specs.Meaning.Outline.{vx, vy, sides, KeepsOrder}
 use Rattle.defs.specs.Meaning.Cell.{Covered}
 use Rattle.defs.specs.Meaning.Turn.{greatest, turned, extentX, extentY}
 use Rattle.defs.specs.Meaning.Placing.{columnsFor}
-use Rattle.defs.specs.Computing.Test.{any, listFrom}
+use Rattle.defs.specs.Computing.Test.{listFrom}
 use Rattle.defs.specs.Computing.Cells.{Rows, coveredb, stretches, inRows, pieceRuns}
 use Rattle.geom.proofs.Strip.{lt-or-le}
 use Rattle.geom.proofs.Computed.{cell-covered}

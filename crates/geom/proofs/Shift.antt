@@ -1,20 +1,18 @@
 -- An outline shifted right by X and up by Y has its inside points shifted likewise.
 -- Assumes nothing.
-use mathlib.Core.Path.{_≡_, refl, ap, ap₂, sym, subst, _∙_}
-use mathlib.Core.Bool.{Bool, true, false, cond, _&&_, false≢true}
-use mathlib.Core.List.{List, [], _∷_}
-use mathlib.Core.Logic.{_⊎_, inl, inr, ⊎-elim, _↔_}
-use Prim.Native.Nat.{ℕ, zero, suc, _+_, _*_, _-_, _/_, _%_, _≤_, _<_}
+use mathlib.Core.Path.{_≡_, refl, ap, ap₂, _∙_}
+use mathlib.Core.Bool.{Bool, true, false, cond, _&&_}
+use mathlib.Core.List.{List}
+use Prim.Native.Nat.{ℕ, _+_, _*_, _-_, _/_, _≤_, _<_}
 use native.Mathlib.Omega.{arith}
-use native.Mathlib.Nat.{mul-le-mul-left, mul-le-mul-right, add-mul-div-right, div-add-mod, mod-lt}
+use native.Mathlib.Nat.{mul-le-mul-right, add-mul-div-right, div-add-mod, mod-lt}
 use lib.Dec.{ltb, leb, eqb}
-use lib.ListN.{length, getD}
+use lib.ListN.{length}
 use borrow.Author.Tests.{lt-ltb, le-ltb, le-leb, lt-leb, ltb-true, ltb-false, leb-true, leb-false, eqb-true, eqb-false, ne-eqb, eq-eqb}
 use Rattle.laws.proofs.Tests.{and-left, and-right}
-use Rattle.defs.specs.Meaning.Outline.{Edge, edgeAt, edgeBetween, after, vx, vy, sides, spans, width, height, passesBelow, passesThrough, countTo, countBelow, Inside}
+use Rattle.defs.specs.Meaning.Outline.{Edge, edgeAt, edgeBetween, after, vx, vy, sides, spans, width, height, passesBelow, passesThrough}
 use Rattle.defs.specs.Meaning.Turn.{outlineFrom}
 use Rattle.laws.proofs.Turns.{at-x, at-y}
-use Rattle.geom.proofs.Parity.{count-same}
 use Rattle.geom.proofs.Extent.{length-outline, after-below}
 
 leb-shift : (a b c : ℕ) → leb (a + c) (b + c) ≡ leb a b

@@ -1,13 +1,13 @@
 -- The stretches of rows that pass a test hold those rows and no others.
 -- Assumes nothing.
 use mathlib.Core.Path.{_≡_, refl, ap, ap₂, sym, subst, _∙_}
-use mathlib.Core.Bool.{Bool, true, false, not, cond, _&&_, _||_, false≢true, true≢false}
+use mathlib.Core.Bool.{Bool, true, false, not, cond, _&&_, false≢true, true≢false}
 use mathlib.Core.List.{List, [], _∷_}
 use mathlib.Core.Logic.{_⊎_, inl, inr, ⊎-elim, _↔_}
 use Prim.Native.Nat.{ℕ, zero, suc, _+_, _≤_, _<_}
 use native.Mathlib.Omega.{arith}
 use lib.Dec.{ltb, leb, eqb}
-use borrow.Author.Tests.{lt-ltb, le-leb, ltb-true, leb-true, eqb-true, eqb-false}
+use borrow.Author.Tests.{lt-ltb, le-leb, ltb-true, leb-true, eqb-true}
 use Rattle.laws.proofs.Tests.{and-left, and-right, or-cases, or-left, or-right}
 use Rattle.defs.specs.Computing.Test.{any}
 use Rattle.defs.specs.Computing.Cells.{Rows, joinRow, stretches, inRows}

@@ -11,3 +11,4 @@ pub mod Chains
 pub mod Formed
 pub mod Complete
 pub mod SheetChains
+pub mod Entries

@@ -1,14 +1,14 @@
 -- The order of positions is strict and total; and the best position by that order is the one that document 01 describes: each
 -- turn takes its least free (c, y), and among these the least by last column, top and turn wins.
 -- Assumes nothing.
-use mathlib.Core.Path.{_≡_, refl, sym, ap, subst, _∙_}
+use mathlib.Core.Path.{_≡_, sym, ap, subst, _∙_}
 use mathlib.Core.Logic.{_⊎_, inl, inr, ⊎-elim, _≢_}
 use mathlib.Core.List.{List}
-use Prim.Native.Nat.{ℕ, zero, suc, _+_, _≤_, _<_}
+use Prim.Native.Nat.{ℕ, _<_}
 use native.Mathlib.Omega.{arith}
 use native.Mathlib.Decide.{decLt}
 use Rattle.defs.specs.declared.Position.{Position}
-use Rattle.defs.specs.Meaning.Turn.{extentX, extentY, Allows}
+use Rattle.defs.specs.Meaning.Turn.{extentX, extentY}
 use Rattle.defs.specs.Meaning.Cell.{Cells}
 use Rattle.defs.specs.Meaning.Placing.{columnsFor, endColumn, top, Later, Fits, Best}
 

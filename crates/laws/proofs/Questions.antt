@@ -1,25 +1,25 @@
 -- The tests of questions 1 to 4, 6 to 9, 15 and of write's 2 decide those questions. 5 is in Complete; a sheet's 6 and 7 are in
 -- SheetChains.
 -- Assumes nothing.
-use mathlib.Core.Path.{_≡_, refl, sym, ap, _∙_}
+use mathlib.Core.Path.{_≡_, ap}
 use mathlib.Core.Logic.{_↔_}
-use mathlib.Core.Bool.{Bool, true, false, _&&_}
+use mathlib.Core.Bool.{_&&_}
 use mathlib.Core.List.{List, [], _∷_}
-use Prim.Native.Nat.{ℕ, zero, suc, _+_, _*_, _-_, _/_, _%_, _^_, _≤_, _<_}
+use Prim.Native.Nat.{ℕ, _-_, _≤_}
 use native.Mathlib.Omega.{arith}
-use lib.Dec.{leb, ltb, eqb}
+use lib.Dec.{leb, eqb}
 use lib.ListN.{length, getD, take}
-use Rattle.defs.specs.Meaning.Limits.{Between, mostCoordinate, mostMask, mostTurn, mostPieces, mostBytes, mostRecords, mostWidth, mostResolution, mostColumns, leastVertices, mostVertices, leadingWords, recordWords}
+use Rattle.defs.specs.Meaning.Limits.{Between, mostCoordinate, mostMask, mostTurn, mostBytes, mostRecords, mostWidth, mostResolution, mostColumns, leastVertices, mostVertices}
 use Rattle.defs.specs.Meaning.Turn.{Allows}
-use Rattle.defs.specs.Meaning.Strip.{Limits, Length}
-use Rattle.defs.specs.Meaning.Sheet.{mark, sheetV, sheetP, Question1, Question2}
+use Rattle.defs.specs.Meaning.Strip.{Length}
+use Rattle.defs.specs.Meaning.Sheet.{Question1, Question2}
 use Rattle.defs.specs.Meaning.Question.{Question2Size, Question3, Question3R, Question4, Question6List, Question7, Question7List, Question8, Question9, Question9Turn, Question15}
 use Rattle.defs.specs.Computing.Test.{all}
 use Rattle.defs.specs.Computing.Cells.{allowedb}
 use Rattle.defs.specs.Computing.Words.{resolutionb, limitsb, recordsOf, lengthb}
 use Rattle.defs.specs.Computing.Calls.{q7b, q8b, q9b}
 use Rattle.defs.specs.Computing.Sheets.{q1b, q2b, q6Listb, q7Listb}
-use Rattle.laws.proofs.Tests.{Decides, leb-decides, eqb-decides, and-decides, all-decides, decides-by, and-left, and-right}
+use Rattle.laws.proofs.Tests.{Decides, leb-decides, eqb-decides, and-decides, all-decides, decides-by}
 
 between : (least x most : ℕ) → Decides (leb least x && leb x most) (Between least x most)
 between least x most =

@@ -1,14 +1,14 @@
 -- A sheet's chains as lists of records, walked and as document 01 says it; and the tests of questions 6 and 7 of a sheet.
 -- Assumes nothing.
-use mathlib.Core.Path.{_≡_, refl, sym, ap, _∙_}
+use mathlib.Core.Path.{_≡_, refl, ap, _∙_}
 use mathlib.Core.Bool.{true, _&&_}
 use mathlib.Core.List.{List, [], _∷_}
-use Prim.Native.Nat.{ℕ, zero, suc, _+_, _*_, _%_, _≤_, _<_}
+use Prim.Native.Nat.{ℕ, zero, suc, _+_, _*_, _≤_}
 use native.Mathlib.Omega.{arith}
 use native.Mathlib.Nat.{zero-lt-suc}
 use lib.ListN.{length}
-use Rattle.defs.specs.Meaning.Limits.{Between, leastVertices, mostVertices, mostPieces}
-use Rattle.defs.specs.Meaning.Sheet.{sheetV, sheetP, firstPiece, vertexNumber, pieceNumber, Chain, done, link, vertexWords, PieceChain, VertexChain}
+use Rattle.defs.specs.Meaning.Limits.{mostVertices, mostPieces}
+use Rattle.defs.specs.Meaning.Sheet.{sheetV, sheetP, firstPiece, vertexNumber, pieceNumber, Chain, done, link, vertexWords, VertexChain}
 use Rattle.defs.specs.Meaning.Question.{Question6, Question7, Question7Sheet}
 use Rattle.defs.specs.Computing.Test.{chainBy, endsBy}
 use Rattle.defs.specs.Computing.Calls.{q7b}

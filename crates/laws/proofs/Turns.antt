@@ -2,11 +2,11 @@
 -- Assumes nothing.
 use mathlib.Core.Path.{_≡_, refl, sym, ap, subst, _∙_}
 use mathlib.Core.Bool.{Bool, true, false, cond, not}
-use mathlib.Core.List.{List, [], _∷_}
-use Prim.Native.Nat.{ℕ, zero, suc, _+_, _*_, _-_, _≤_, _<_, min, max}
+use mathlib.Core.List.{List, _∷_}
+use Prim.Native.Nat.{ℕ, zero, suc, _+_, _*_, _-_, _<_, min, max}
 use native.Mathlib.Omega.{arith}
 use lib.Dec.{leb, T, leb→le, nleb→lt}
-use lib.ListN.{getD, length}
+use lib.ListN.{getD}
 use Rattle.defs.specs.Meaning.Outline.{vx, vy, sides}
 use Rattle.defs.specs.Meaning.Turn.{Whole, whole, negative, lesser, above, quarters, sent, least, outlineFrom, turned}
 

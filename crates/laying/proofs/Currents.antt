@@ -1,8 +1,8 @@
 -- The tables that take turns: what place asks of them, and what its answer leaves. Assumes nothing.
 use mathlib.Core.Path.{_≡_, refl, ap, subst, _∙_}
-use mathlib.Core.Bool.{Bool, true, false}
+use mathlib.Core.Bool.{true, false}
 use mathlib.Core.List.{List}
-use Prim.Native.Nat.{ℕ, _+_, _*_, _-_, _≤_}
+use Prim.Native.Nat.{ℕ, _*_, _-_, _≤_}
 use native.Mathlib.Omega.{arith}
 use lib.ListN.{length}
 use lib.Seq.{sets}
@@ -17,8 +17,8 @@ use Rattle.defs.specs.Meaning.Placing.{endColumn}
 use Rattle.defs.specs.Computing.Lay.{fateOf, heldAfter}
 use Rattle.place.specs.Table.{Tabled, Next, NextIf, PlacedOn}
 use Rattle.fates.specs.declared.Tally.{Tally}
-use Rattle.fates.specs.Fates.{endOf, turned, tallied}
-use Rattle.laying.specs.Boards.{heldBy, Board, Roomy, Boards, Turns}
+use Rattle.fates.specs.Fates.{endOf, tallied}
+use Rattle.laying.specs.Boards.{Board, Roomy, Boards, Turns}
 use Rattle.laying.specs.Jobs.{PlaceFits, PlacedBy, PieceLaid}
 
 same-place : {p q : Position} → Placed p ≡ Placed q → p ≡ q
@@ -125,12 +125,12 @@ module _
     {e : ℕ}
     {fate : Fate}
     (x : PlacedBy (t .second) f l h f₂ l₂ h₂ f' l' h' f₂' l₂' h₂' o W R N Q mask words a) where
-  pub piece-laid : fate ≡ fateOf a → out' ≡ sets out (4 * (t .ordinal - 1)) (fateWords fate) → e ≡ endOf R o a → t' ≡ tallied t a e →
+  pub piece-laid : fate ≡ fateOf a → out' ≡ sets out (4 * (t .ordinal - 1)) (fateWords fate) → e ≡ endOf R o a → t' ≡ tallied t a e N →
       PieceLaid f l h f₂ l₂ h₂ f' l' h' f₂' l₂' h₂' out out' o W R N Q mask words t t'
   piece-laid ef eo ee et =
       record {
         turns = subst (Turns (t .second) f l h f₂ l₂ h₂ f' l' h' f₂' l₂' h₂' o W R N Q) (x .answer) (x .turns);
         output = eo ∙ ap (λ (g : Fate). sets out (4 * (t .ordinal - 1)) (fateWords g)) (ef ∙ ap fateOf (x .answer));
-        tally = et ∙ ap (tallied t a) ee ∙ ap (λ (b : Placing). tallied t b (endOf R o b)) (x .answer);
+        tally = et ∙ ap (λ (n : ℕ). tallied t a n N) ee ∙ ap (λ (b : Placing). tallied t b (endOf R o b) N) (x .answer);
         end = subst (λ (b : Placing). endOf R o b ≤ N) (x .answer) (end-fits a (x .fits));
       }

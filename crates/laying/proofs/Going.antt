@@ -1,6 +1,6 @@
 -- The pieces of a chain laid one after another: what is left gives the whole. Assumes nothing.
 use mathlib.Core.Path.{_≡_, refl, sym, ap, _∙_}
-use mathlib.Core.Bool.{Bool, true, false}
+use mathlib.Core.Bool.{false}
 use mathlib.Core.Option.{none}
 use mathlib.Core.List.{List, [], _∷_, _++_, map}
 use Prim.Native.Nat.{ℕ, _+_, _-_, _*_, _≤_, _<_, max}
@@ -20,13 +20,17 @@ use Rattle.defs.specs.Computing.Calls.{placeOn}
 use Rattle.defs.specs.Computing.Sheets.{pieceOf, pieceRecords, sheetPieces, sheetPieceNo, firstNo}
 use Rattle.defs.specs.Computing.Lay.{fateOf, heldAfter, entriesFrom, heldFrom, placedIn, usedIn, entriesWords}
 use Rattle.tables.specs.Flat.{tableOf}
+use Rattle.tables.proofs.Copies.{NoneBefore, none-before-0}
 use Rattle.laws.proofs.Stores.{sets-append}
 use Rattle.sheets.proofs.Asking.{first-none}
-use Rattle.reads.proofs.Along.{Along, nextPiece, rest, along-start, along-end, along-left, along-here, along-rest, along-next}
+use Rattle.reads.specs.Put.{PieceAt}
+use Rattle.reads.proofs.Along.{Along, nextPiece, rest, along-start, along-end, along-here, along-left, along-rest, along-next}
 use Rattle.fates.specs.declared.Tally.{Tally}
-use Rattle.fates.specs.Fates.{endOf, oneIf, turned, tallied, Few}
+use Rattle.fates.specs.Fates.{endOf, oneIf, tallied, Few}
 use Rattle.laying.specs.Boards.{heldBy, Boards}
 use Rattle.laying.specs.Jobs.{PieceLaid, JobReady, JobLaid}
+use Rattle.laying.proofs.Pieces.{piece-ordered}
+use Rattle.laying.proofs.Copied.{held-table, answer-tells}
 
 -- entries and runs, one piece after another
 module _ (W R N Q words k : ℕ) (held : List (List Rows)) (p : Piece) (ps : List Piece) where
@@ -108,8 +112,8 @@ whole-by : {o o' : List ℕ} {p p' u u' : ℕ} {c c' : List (List Rows)} → o �
     _≡_ {A = Whole} (record { output = o; placed = p; used = u; held = c }) (record { output = o'; placed = p'; used = u'; held = c' })
 whole-by a b c d = rw (a, b, c, d) refl
 
--- the pieces before `at` are laid, and the others on top of them give the whole
-pub record Going (b : List ℕ) (v : ℕ) (W R N Q words : ℕ) (x : Whole) (at left : ℕ) (t : Tally) (f l h f₂ l₂ h₂ : List ℕ) (out : List ℕ) (long : ℕ) : Type 0 where
+-- the pieces before `at` are laid, and the others on top of them give the whole; `last` is the last of them
+pub record Going (b : List ℕ) (v : ℕ) (W R N Q words : ℕ) (x : Whole) (at last left : ℕ) (t : Tally) (f l h f₂ l₂ h₂ : List ℕ) (out : List ℕ) (long : ℕ) : Type 0 where
   pub along : Along b v at left
   pub passes : firstNo (sheetPieceNo b) (t .ordinal) (rest b left at) ≡ none
   pub place : t .ordinal + left ≡ 201
@@ -121,13 +125,16 @@ pub record Going (b : List ℕ) (v : ℕ) (W R N Q words : ℕ) (x : Whole) (at 
   pub room : 4 * (t .ordinal - 1) + 4 * length (rest b left at) ≤ long
   pub whole :
       wholeFrom out W R N Q words (t .ordinal) (heldBy (t .second) f l h f₂ l₂ h₂ N) (restPieces b left at) (t .placed) (t .used) ≡ x
+  pub last-here : 0 < at → PieceAt b v last
+  pub copies :
+      NoneBefore W R N (heldBy (t .second) f l h f₂ l₂ h₂ N) (pieceOf b last .outline) (pieceOf b last .mask) (t .lower)
 
 abbrev pub started : Tally
-started = record { ordinal = 1; placed = 0; used = 0; second = false }
+started = record { ordinal = 1; placed = 0; used = 0; second = false; lower = 0 }
 
 pub going-start : {b : List ℕ} {v at : ℕ} {f l h f₂ l₂ h₂ out : List ℕ} {W R N Q : ℕ} (words : ℕ) →
     JobReady b v f l h f₂ l₂ h₂ out W R N Q → at ≡ firstPiece b →
-    Going b v W R N Q words (wholeFrom out W R N Q words 1 (tableOf f l h N) (sheetPieces b) 0 0) at mostPieces started f l h f₂ l₂ h₂ out (length out)
+    Going b v W R N Q words (wholeFrom out W R N Q words 1 (tableOf f l h N) (sheetPieces b) 0 0) at at mostPieces started f l h f₂ l₂ h₂ out (length out)
 unfolding pieceRecords sheetPieces
 going-start words r e =
     record {
@@ -141,17 +148,19 @@ going-start words r e =
       same = refl;
       room = rw e (omega (arith, r .room));
       whole = rw e refl;
+      last-here = along-here (along-start (r .chain) e);
+      copies = none-before-0 _ _ _ _ _ _;
     }
 
 module _
     {b : List ℕ}
     {v W R N Q words : ℕ}
     {x : Whole}
-    {at left : ℕ}
+    {at last left : ℕ}
     {t : Tally}
     {f l h f₂ l₂ h₂ out : List ℕ}
     {long : ℕ}
-    (s : Going b v W R N Q words x at left t f l h f₂ l₂ h₂ out long)
+    (s : Going b v W R N Q words x at last left t f l h f₂ l₂ h₂ out long)
     (p : 0 < at) where
   abbrev later : List ℕ
   later = rest b (left - 1) (nextPiece b at)
@@ -194,7 +203,7 @@ module _
     entries = entriesFrom W R N Q words (t .ordinal + 1) then-held (map (pieceOf b) later)
 
     abbrev next-tally : Tally
-    next-tally = tallied t answer (endOf R (piece .outline) answer)
+    next-tally = tallied t answer (endOf R (piece .outline) answer) N
 
     -- the whole by the pieces after this one
     whole-next :
@@ -213,7 +222,7 @@ module _
         (sym (held-step W R N Q words k now-held piece (map (pieceOf b) later))) ∙
         ap (λ (rs : List ℕ). wholeFrom out W R N Q words k now-held (map (pieceOf b) rs) (t .placed) (t .used)) (sym rest-is) ∙ s .whole
 
-    pub going-next : {at' : ℕ} → at' ≡ nextPiece b at → Going b v W R N Q words x at' (left - 1) t' f' l' h' f₂' l₂' h₂' out' long
+    pub going-next : {at' : ℕ} → at' ≡ nextPiece b at → Going b v W R N Q words x at' at (left - 1) t' f' l' h' f₂' l₂' h₂' out' long
     going-next e =
         let some = along-left (s .along) p in
         rw (e, y .tally)
@@ -228,11 +237,16 @@ module _
           same = ap length (y .output) ∙ length-sets out (4 * (t .ordinal - 1)) (fateWords (fateOf answer)) ∙ s .same;
           room = omega (arith, s .room, s .first, long-is);
           whole = rw (y .turns .held) whole-next;
+          last-here = λ _. along-here (s .along) p;
+          copies =
+              rw (y .turns .held)
+              (answer-tells W R N Q words now-held (piece .outline) (piece .mask) (piece-ordered b at (pass .0))
+              (s .boards .limits .resolution .at-least) (held-table (t .second) (s .boards)) answer refl);
         })
 
-pub going-end : {b : List ℕ} {v W R N Q words : ℕ} {out₀ : List ℕ} {held : List (List Rows)} {at left : ℕ} {t : Tally}
+pub going-end : {b : List ℕ} {v W R N Q words : ℕ} {out₀ : List ℕ} {held : List (List Rows)} {at last left : ℕ} {t : Tally}
     {f l h f₂ l₂ h₂ out : List ℕ} {long : ℕ} →
-    Going b v W R N Q words (wholeFrom out₀ W R N Q words 1 held (sheetPieces b) 0 0) at left t f l h f₂ l₂ h₂ out long → at ≡ 0 →
+    Going b v W R N Q words (wholeFrom out₀ W R N Q words 1 held (sheetPieces b) 0 0) at last left t f l h f₂ l₂ h₂ out long → at ≡ 0 →
     JobLaid b held f l h f₂ l₂ h₂ out₀ out W R N Q words t
 unfolding entriesFrom entriesWords heldFrom placedIn usedIn
 going-end {b} {W = W} {R} {N} {Q} {words} {out₀} {held} {left = left} {t = t} {f} {l} {h} {f₂} {l₂} {h₂} {out} s e =

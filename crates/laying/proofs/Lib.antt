@@ -1,4 +1,5 @@
 pub mod Currents
 pub mod Pieces
+pub mod Copied
 pub mod Going
 pub mod Tops

@@ -1,6 +1,6 @@
 -- From the tables to the strip, and from the answers to lay's questions to its step. Assumes nothing.
 use mathlib.Core.Path.{_≡_, refl, sym, ap, subst, _∙_}
-use mathlib.Core.Bool.{Bool, true, false}
+use mathlib.Core.Bool.{true, false}
 use mathlib.Core.Option.{Option, none, some}
 use mathlib.Core.List.{List, [], _++_, map}
 use Prim.Native.Nat.{ℕ, _+_, _*_, _≤_, _<_}
@@ -19,22 +19,21 @@ use Rattle.defs.specs.declared.Laying.the-variants.{Laid, Refused as NotLaid}
 use Rattle.defs.specs.Meaning.Strip.{Limits}
 use Rattle.defs.specs.Meaning.Sheet.{sheetW, sheetR, sheetN, sheetV}
 use Rattle.defs.specs.Computing.Test.{ask}
-use Rattle.defs.specs.Computing.Cells.{Rows}
-use Rattle.defs.specs.Computing.Words.{limitsb, lengthb, recordsOf, written}
+use Rattle.defs.specs.Computing.Words.{lengthb, recordsOf, written}
 use Rattle.defs.specs.Computing.Calls.{refusal, cleared, Left}
-use Rattle.defs.specs.Computing.Sheets.{q2b, pieceOf, pieceRecords, sheetPieces, sheetNo}
+use Rattle.defs.specs.Computing.Sheets.{pieceOf, pieceRecords, sheetPieces, sheetNo}
 use Rattle.defs.specs.Computing.Lay.{entriesFrom, heldFrom, placedIn, usedIn, entriesWords, layEntries, layAnswer, layOutput, LayLeaves, LayStep}
 use Rattle.laws.proofs.Questions.{question-2, question-3, length-decides}
-use Rattle.tables.specs.Flat.{Flat, Laid as TableLaid, tableOf}
+use Rattle.tables.specs.Flat.{Flat, tableOf}
 use Rattle.tables.proofs.Flats.{table-apart, table-flat, table-length, count-is}
 use Rattle.tables.proofs.Written.{Writable, written-left}
 use Rattle.encode.specs.Room.{Room}
 use Rattle.open.proofs.Empty.{zeros, zeros-flat, empty-table}
 use Rattle.sheets.proofs.Answers.{figuresOf}
 use Rattle.reads.specs.Steps.{Passed, JobPasses, JobRefused}
-use Rattle.reads.proofs.Outputs.{chain-ends, no-none, count-few}
+use Rattle.reads.proofs.Outputs.{chain-ends, no-none}
 use Rattle.fates.specs.declared.Tally.{Tally}
-use Rattle.laying.specs.Boards.{heldBy, Board, Roomy, Boards}
+use Rattle.laying.specs.Boards.{heldBy, Roomy}
 use Rattle.laying.specs.Jobs.{JobReady, JobLaid, StripReady, JobPassed, Fresh, JobDone, LayAnswered}
 use Rattle.laying.proofs.Going.{words-long}
 

@@ -2,7 +2,7 @@
 use mathlib.Core.Path.{_≡_}
 use mathlib.Core.Bool.{Bool, true, false}
 use mathlib.Core.List.{List, []}
-use Prim.Native.Nat.{ℕ, _+_, _*_, _-_, _≤_}
+use Prim.Native.Nat.{ℕ, _*_, _-_, _≤_}
 use lib.ListN.{length, replicate}
 use lib.Seq.{sets}
 use Rattle.defs.specs.declared.Position.{Position}
@@ -50,7 +50,7 @@ pub record PieceLaid (f l h f₂ l₂ h₂ f' l' h' f₂' l₂' h₂' out out' o
       sets out (4 * (t .ordinal - 1)) (fateWords (fateOf (answerBy (t .second) f l h f₂ l₂ h₂ o W R N Q mask words)))
   pub tally :
       let a = answerBy (t .second) f l h f₂ l₂ h₂ o W R N Q mask words in
-      t' ≡ tallied t a (endOf R o a)
+      t' ≡ tallied t a (endOf R o a) N
   pub end : endOf R o (answerBy (t .second) f l h f₂ l₂ h₂ o W R N Q mask words) ≤ N
 
 -- a sheet whose pieces pass their questions, empty tables, and an output with room for an entry a piece

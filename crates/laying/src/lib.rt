@@ -14,8 +14,9 @@ ghost use Rattle.asked.proofs.InOrder.{Ordered};
 ghost use Rattle.reads.specs.Put.{PieceAt};
 ghost use Rattle.reads.specs.Steps.{JobPasses};
 ghost use Rattle.tables.specs.Flat.{tableOf};
+ghost use Rattle.tables.proofs.Copies.{NoneBefore};
 ghost use Rattle.fates.specs.Fates.{Few};
-ghost use Rattle.laying.specs.Boards.{Boards};
+ghost use Rattle.laying.specs.Boards.{heldBy, Boards};
 ghost use Rattle.laying.specs.Jobs.{PlacedBy, PieceLaid, JobReady, JobLaid, StripReady, JobPassed, Fresh, JobDone, LayAnswered};
 use best::Way;
 use defs::Entry;
@@ -27,9 +28,9 @@ use defs::Totals;
 use fates::Tally;
 use reads::Job;
 use reads::Strip;
-use sheet::Chain;
+use records::Chain;
 
-// Places the outline on the current table; the other one has it entered then.
+// Places the outline on the current table, where no free position ends before column `lower`; the other one has it entered then.
 fn place_current(
     g: Figures,
     q: usize,
@@ -42,10 +43,13 @@ fn place_current(
     highs2: &mut [u16],
     o: &[u16],
     mask: u16,
+    lower: usize,
     work: &mut [u16],
 ) -> Placing
     requires { ⌜ Boards second (now first) (now lows) (now highs) (now first2) (now lows2) (now highs2) (g .width) (g .resolution) (g .columns) q ⌝
-        ∗ ⌜ Ordered (now o) (q9b mask) mask ⌝ }
+        ∗ ⌜ Ordered (now o) (q9b mask) mask ⌝
+        ∗ ⌜ NoneBefore (g .width) (g .resolution) (g .columns)
+        (heldBy second (now first) (now lows) (now highs) (now first2) (now lows2) (now highs2) (g .columns)) (now o) mask lower ⌝ }
     ensures { λ a. ⌜ PlacedBy second (now (first .entry)) (now (lows .entry)) (now (highs .entry)) (now (first2 .entry)) (now (lows2 .entry)) (now (highs2 .entry))
         (now (first .exit)) (now (lows .exit)) (now (highs .exit)) (now (first2 .exit)) (now (lows2 .exit)) (now (highs2 .exit))
         (now (o .entry)) (g .width) (g .resolution) (g .columns) q mask (length (now (work .entry))) a ⌝ }
@@ -60,6 +64,7 @@ fn place_current(
             o,
             mask,
             Way::Round,
+            lower,
             work,
             first,
             lows,
@@ -75,6 +80,7 @@ fn place_current(
             o,
             mask,
             Way::Round,
+            lower,
             work,
             first2,
             lows2,
@@ -96,11 +102,14 @@ fn lay_outline(
     highs2: &mut [u16],
     o: &[u16],
     mask: u16,
+    lower: usize,
     out: &mut [u16],
     work: &mut [u16],
 ) -> Tally
     requires { ⌜ Boards (t .second) (now first) (now lows) (now highs) (now first2) (now lows2) (now highs2) (g .width) (g .resolution) (g .columns) q ⌝
-        ∗ ⌜ Ordered (now o) (q9b mask) mask ⌝ ∗ ⌜ Few t ⌝ ∗ ⌜ 4 * t .ordinal ≤ length (now out) ⌝ }
+        ∗ ⌜ Ordered (now o) (q9b mask) mask ⌝ ∗ ⌜ Few t ⌝ ∗ ⌜ 4 * t .ordinal ≤ length (now out) ⌝
+        ∗ ⌜ NoneBefore (g .width) (g .resolution) (g .columns)
+        (heldBy (t .second) (now first) (now lows) (now highs) (now first2) (now lows2) (now highs2) (g .columns)) (now o) mask lower ⌝ }
     ensures { λ r. ⌜ PieceLaid (now (first .entry)) (now (lows .entry)) (now (highs .entry)) (now (first2 .entry)) (now (lows2 .entry)) (now (highs2 .entry))
         (now (first .exit)) (now (lows .exit)) (now (highs .exit)) (now (first2 .exit)) (now (lows2 .exit)) (now (highs2 .exit))
         (now (out .entry)) (now (out .exit)) (now (o .entry)) (g .width) (g .resolution) (g .columns) q mask (length (now (work .entry))) t r ⌝ }
@@ -117,6 +126,7 @@ fn lay_outline(
         highs2,
         o,
         mask,
+        lower,
         work,
     );
     let e = fates::end_of(o, g.resolution, a);
@@ -127,14 +137,15 @@ fn lay_outline(
         },
         out,
     );
-    fates::counted(t, a, e as u16)
+    fates::counted(t, a, e as u16, g.columns)
 }
 
-// Lays the piece of piece record `at`.
+// Lays the piece of piece record `at`, of which no free position ends before column `lower`.
 fn lay_piece(
     sheet: &[u8],
     v: usize,
     at: usize,
+    lower: usize,
     g: Figures,
     q: usize,
     t: Tally,
@@ -149,15 +160,18 @@ fn lay_piece(
 ) -> Tally
     requires { ⌜ PieceAt (now sheet) v at ⌝ ∗ ⌜ sheetPieceNo (now sheet) at ≡ 0 ⌝
         ∗ ⌜ Boards (t .second) (now first) (now lows) (now highs) (now first2) (now lows2) (now highs2) (g .width) (g .resolution) (g .columns) q ⌝
-        ∗ ⌜ Few t ⌝ ∗ ⌜ 4 * t .ordinal ≤ length (now out) ⌝ }
+        ∗ ⌜ Few t × (4 * t .ordinal ≤ length (now out)) ⌝
+        ∗ ⌜ NoneBefore (g .width) (g .resolution) (g .columns)
+        (heldBy (t .second) (now first) (now lows) (now highs) (now first2) (now lows2) (now highs2) (g .columns))
+        (pieceOf (now sheet) at .outline) (pieceOf (now sheet) at .mask) lower ⌝ }
     ensures { λ r. ⌜ PieceLaid (now (first .entry)) (now (lows .entry)) (now (highs .entry)) (now (first2 .entry)) (now (lows2 .entry)) (now (highs2 .entry))
         (now (first .exit)) (now (lows .exit)) (now (highs .exit)) (now (first2 .exit)) (now (lows2 .exit)) (now (highs2 .exit))
         (now (out .entry)) (now (out .exit)) (pieceOf (now (sheet .entry)) at .outline) (g .width) (g .resolution) (g .columns) q
         (pieceOf (now (sheet .entry)) at .mask) (length (now (work .entry))) t r ⌝ }
 {
-    let piece = sheet::visit(sheet, v + at);
+    let piece = records::visit(sheet, v + at);
     let mut words = [0u16; numbers::MOST_WORDS];
-    match sheet::gather(sheet, v, piece.first, &mut words) {
+    match records::gather(sheet, v, piece.first, &mut words) {
         Chain::Whole(n) => {
             let e = 2 * n;
             lay_outline(
@@ -172,6 +186,7 @@ fn lay_piece(
                 highs2,
                 &words[..e],
                 piece.second,
+                lower,
                 out,
                 work,
             )
@@ -180,7 +195,7 @@ fn lay_piece(
     }
 }
 
-// Lays the pieces of the chain.
+// Lays the pieces of the chain. A copy of the piece before it is searched from where that one's position ended.
 fn lay_chain(
     sheet: &[u8],
     v: usize,
@@ -200,19 +215,23 @@ fn lay_chain(
         (now (first .exit)) (now (lows .exit)) (now (highs .exit)) (now (first2 .exit)) (now (lows2 .exit)) (now (highs2 .exit))
         (now (out .entry)) (now (out .exit)) (g .width) (g .resolution) (g .columns) q (length (now (work .entry))) t ⌝ }
 {
-    let mut at = sheet::number(sheet, sheet::FIRST_PIECE) as usize;
-    let mut left = sheet::MOST_PIECES;
+    let mut at = records::number(sheet, records::FIRST_PIECE) as usize;
+    let mut last = at;
+    let mut left = records::MOST_PIECES;
     let mut t = Tally {
         ordinal: 1,
         placed: 0,
         used: 0,
         second: false,
+        lower: 0,
     };
     while 0 < at {
+        let lower = copies::start_of(sheet, v, last, at, t.lower);
         t = lay_piece(
             sheet,
             v,
             at,
+            lower,
             g,
             q,
             t,
@@ -225,7 +244,8 @@ fn lay_chain(
             out,
             work,
         );
-        at = sheet::visit(sheet, v + at).next as usize;
+        last = at;
+        at = records::visit(sheet, v + at).next as usize;
         left -= 1;
     }
     t
@@ -259,7 +279,7 @@ fn lay_all(
         ∗ ⌜ Fresh (now sheet) (now first) (now lows) (now highs) (now first2) (now lows2) (now highs2) (g .width) (g .resolution) (g .columns) (length (now strip)) ⌝ }
     ensures { λ t. ⌜ JobDone (now (sheet .entry)) (now (strip .entry)) (now (out .entry)) (length (now (work .entry))) t (now (strip .exit)) (now (out .exit)) ⌝ }
 {
-    let v = sheet::number(sheet, sheet::VERTICES) as usize;
+    let v = records::number(sheet, records::VERTICES) as usize;
     let q = limits::records_of(g.columns, strip.len());
     let t = lay_chain(
         sheet,

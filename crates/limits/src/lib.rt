@@ -1,7 +1,6 @@
 // Questions 3 and 4: the limits of width, resolution, columns and records, and the length of a strip.
 
 ghost use mathlib.Core.Path.{_≡_};
-ghost use Prim.Native.Nat.{_≤_};
 ghost use Rattle.defs.specs.Computing.Words.{resolutionb, limitsb, lengthb, recordsOf};
 
 pub const MOST_WIDTH: u16 = 16000;

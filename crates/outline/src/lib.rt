@@ -2,7 +2,6 @@
 
 ghost use mathlib.Core.Path.{_≡_};
 ghost use Prim.Native.Nat.{_≤_, _<_};
-ghost use lib.ListN.{length};
 ghost use Rattle.defs.specs.Meaning.Outline.{sides, after, edgeBetween};
 ghost use Rattle.defs.specs.Meaning.Turn.{extentX, extentY};
 ghost use Rattle.outline.specs.Vertex.{Lent, BoundsOf, FrameOf, Distance, VertexOf, SideOf, edgeOf};

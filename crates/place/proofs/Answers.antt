@@ -1,10 +1,10 @@
 -- The answer of place on a table, question by question: what was asked says which case of the definition it is.
 -- Assumes nothing.
-use mathlib.Core.Path.{_≡_, refl, sym, ap, subst, _∙_}
+use mathlib.Core.Path.{_≡_, refl, sym, ap, _∙_}
 use mathlib.Core.Logic.{_≢_}
 use mathlib.Core.Bool.{Bool, true, false}
 use mathlib.Core.List.{List}
-use mathlib.Core.Option.{Option, none, some}
+use mathlib.Core.Option.{none, some}
 use Prim.Native.Nat.{ℕ, _*_, _/_, _≤_, _<_}
 use native.Mathlib.Omega.{arith}
 use lib.Dec.{eqb}
@@ -14,9 +14,9 @@ use Rattle.defs.specs.declared.Placing.{Placing}
 use Rattle.defs.specs.declared.Placing.the-variants.{Placed, Refused}
 use Rattle.defs.specs.Meaning.Question.{Question10, Question12}
 use Rattle.defs.specs.Computing.Test.{ask}
-use Rattle.defs.specs.Computing.Cells.{Rows, pieceRuns, countRuns, mostRuns}
+use Rattle.defs.specs.Computing.Cells.{Rows, mostRuns}
 use Rattle.defs.specs.Computing.Search.{bestBelow}
-use Rattle.defs.specs.Computing.Calls.{refusal, q7b, q8b, q9b, q11b, q12b, q14b, outlineNo, choose, placeOn}
+use Rattle.defs.specs.Computing.Calls.{refusal, q9b, q11b, q12b, q14b, outlineNo, choose, placeOn}
 use Rattle.laws.proofs.Questions.{question-7}
 use Rattle.geom.proofs.Checks.{question-10, question-12, runs-of-turn, none-no-is, has-side}
 use Rattle.checks.proofs.Turned.{lent-of}

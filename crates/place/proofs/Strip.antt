@@ -1,18 +1,17 @@
 -- From a strip's words to its table and back: what a decoded strip gives to place on its table, and what the strip holds afterwards.
 -- Assumes nothing.
 use mathlib.Core.Path.{_≡_, refl, sym, ap, subst, _∙_}
-use mathlib.Core.Bool.{Bool, true, false}
+use mathlib.Core.Bool.{false}
 use mathlib.Core.List.{List, []}
-use Prim.Native.Nat.{ℕ, _+_, _*_, _≤_, _<_}
+use Prim.Native.Nat.{ℕ, _≤_}
 use native.Mathlib.Omega.{arith}
 use lib.ListN.{length, getD, replicate}
 use Rattle.defs.specs.declared.Position.{Position}
 use Rattle.defs.specs.declared.Placing.{Placing}
 use Rattle.defs.specs.declared.Placing.the-variants.{Placed, Refused}
-use Rattle.defs.specs.Meaning.Limits.{mostRecords, leadingWords, recordWords}
 use Rattle.defs.specs.Meaning.Strip.{widthOf, resolutionOf, columnsOf}
-use Rattle.defs.specs.Computing.Cells.{Rows, countRuns}
-use Rattle.defs.specs.Computing.Words.{wellFormedb, recordsOf, lengthb, columnsRuns, written}
+use Rattle.defs.specs.Computing.Cells.{Rows}
+use Rattle.defs.specs.Computing.Words.{wellFormedb, recordsOf, columnsRuns, written}
 use Rattle.defs.specs.Computing.Search.{entered}
 use Rattle.defs.specs.Computing.Calls.{refusal, Left, placeOn, placeAnswer, PlaceLeaves, PlaceStep, cleared}
 use Rattle.laws.proofs.Questions.{length-decides}

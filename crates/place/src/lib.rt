@@ -9,7 +9,9 @@ ghost use Rattle.defs.specs.Meaning.Turn.{turned};
 ghost use Rattle.defs.specs.Computing.Cells.{pieceRuns, countRuns};
 ghost use Rattle.outline.specs.Vertex.{Lent, BoundsOf};
 ghost use Rattle.cells.specs.Put.{Resolution};
+ghost use Rattle.tables.specs.Flat.{tableOf};
 ghost use Rattle.tables.specs.Piece.{Stands};
+ghost use Rattle.tables.proofs.Copies.{NoneBefore};
 ghost use Rattle.best.specs.Choice.{Kept};
 ghost use Rattle.asked.proofs.InOrder.{Ordered};
 ghost use Rattle.decode.specs.Decodes.{Holds-runs};
@@ -99,8 +101,8 @@ fn enter_at(
     }
 }
 
-// Questions 11 to 14 of an outline that passes those before, on a table that holds the runs of a strip; where the piece is placed, the
-// next table holds them after it.
+// Questions 11 to 14 of an outline that passes those before, on a table that holds the runs of a strip, where no free position ends
+// before column `lower`; where the piece is placed, the next table holds them after it.
 pub fn place_asked(
     g: Figures,
     q: usize,
@@ -110,18 +112,20 @@ pub fn place_asked(
     o: &[u16],
     mask: u16,
     way: Way,
+    lower: usize,
     work: &mut [u16],
     first2: &mut [u16],
     lows2: &mut [u16],
     highs2: &mut [u16],
 ) -> Placing
     requires { ⌜ Tabled (now first) (now lows) (now highs) (now first2) (now lows2) (now highs2) (g .width) (g .resolution) (g .columns) q ⌝
-        ∗ ⌜ Ordered (now o) (q9b mask) mask ⌝ }
+        ∗ ⌜ Ordered (now o) (q9b mask) mask ⌝
+        ∗ ⌜ NoneBefore (g .width) (g .resolution) (g .columns) (tableOf (now first) (now lows) (now highs) (g .columns)) (now o) mask lower ⌝ }
     ensures { λ a. ⌜ PlacedOn (now (first .entry)) (now (lows .entry)) (now (highs .entry)) (now (first2 .exit)) (now (lows2 .exit)) (now (highs2 .exit)) (now (o .entry)) (g .width) (g .resolution) (g .columns) q mask (length (now (work .entry))) a ⌝ }
 {
     let room = work.len() / 3;
     let b = outline::bounds_of(o);
-    let s = best::best_turn(g, first, lows, highs, o, b, mask, way, work);
+    let s = best::best_turn(g, first, lows, highs, o, b, mask, way, lower, work);
     if s.most == 0 {
         return refused(11, 1);
     }
@@ -182,6 +186,7 @@ fn place_on(
         o,
         mask,
         way,
+        0,
         work,
         first2,
         lows2,

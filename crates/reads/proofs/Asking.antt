@@ -7,7 +7,7 @@ use native.Mathlib.Omega.{arith}
 use Rattle.defs.specs.Meaning.Limits.{mostPieces}
 use Rattle.defs.specs.Meaning.Sheet.{firstPiece}
 use Rattle.defs.specs.Computing.Sheets.{pieceRecords, firstNo, sheetPieceNo}
-use Rattle.sheet.proofs.Refusals.{no-end, no-on, no-here}
+use Rattle.records.proofs.Refusals.{no-end, no-on, no-here}
 use Rattle.reads.specs.Put.{ChainEnds}
 use Rattle.reads.specs.Steps.{NoneRefused, FirstRefused}
 use Rattle.reads.proofs.Along.{Along, nextPiece, rest, along-start, along-end, along-left, along-rest, along-next}

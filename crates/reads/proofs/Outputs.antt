@@ -2,30 +2,27 @@
 -- Assumes nothing.
 use mathlib.Core.Path.{_≡_, sym, ap, _∙_}
 use mathlib.Core.Bool.{Bool, true, false}
-use mathlib.Core.Option.{Option, none, some}
+use mathlib.Core.Option.{none}
 use mathlib.Core.List.{List, [], _∷_, _++_}
 use Prim.Native.Nat.{ℕ, _+_, _*_, _≤_, _<_}
 use native.Mathlib.Omega.{arith}
 use native.Mathlib.Nat.{zero-add}
-use lib.Dec.{leb}
 use lib.ListN.{length, drop, length-map}
 use lib.Seq.{sets, sets-eq}
 use borrow.Author.Tests.{lt-leb}
-use Rattle.defs.specs.declared.Refusal.{Refusal}
 use Rattle.defs.specs.declared.Figures.{Figures}
 use Rattle.defs.specs.declared.Reading.{Reading}
 use Rattle.defs.specs.declared.Reading.the-variants.{Read, Refused as NotRead}
 use Rattle.defs.specs.Meaning.Limits.{mostPieces}
 use Rattle.defs.specs.Meaning.Sheet.{sheetW, sheetR, sheetN, sheetV, sheetP, firstPiece, pieceNumber, listWords}
-use Rattle.defs.specs.Computing.Test.{ask}
 use Rattle.defs.specs.Computing.Words.{limitsb}
 use Rattle.defs.specs.Computing.Calls.{refusal}
 use Rattle.defs.specs.Computing.Sheets.{q1b, q2b, pieceOf, pieceRecords, sheetPieces, sheetPieceNo, firstNo, sheetNo, readAnswer, readOutput, ReadStep}
 use Rattle.laws.proofs.Questions.{question-1, question-2, question-3}
 use Rattle.laws.proofs.Walks.{chain-few}
 use Rattle.sheets.proofs.Asking.{asked, not-zero, first-none}
-use Rattle.sheets.proofs.Answers.{figuresOf, read-grants}
-use Rattle.sheet.specs.Records.{PiecesIll}
+use Rattle.sheets.proofs.Answers.{said, passed, figuresOf, read-grants}
+use Rattle.records.specs.Records.{PiecesIll}
 use Rattle.reads.specs.Put.{VertexEnds, AllEnd, end-none, end-more, ChainEnds, PiecesRoom}
 use Rattle.reads.specs.Steps.{FirstRefused, Begun, Counted, Passed, fourthOf, JobRefused}
 use Rattle.reads.specs.declared.Strip.{Strip}
@@ -124,21 +121,11 @@ four-is b strip e h k = ap (λ (f : Figures). fourthOf strip (f .columns)) (sym 
 
 -- the step
 
--- the first "no" decides the answer
-abbrev answered : List ℕ → ℕ → Option Refusal → Reading
-answered b words refused =
-    elim refused [
-      | some r ↦ NotRead r
-      | none ↦
-          ask (leb (length (listWords (sheetPieces b))) words) (NotRead (refusal 15 0)) λ _.
-          Read (figuresOf b)
-    ]
-
 pub refused-step : {b out out' : List ℕ} {a : Reading} {n k : ℕ} → a ≡ NotRead (refusal n k) → JobRefused b true n k →
     out' ≡ out → ReadStep b out a out'
 unfolding readAnswer readOutput
 refused-step {b} {out} e f g =
-    record { answer = e ∙ sym (ap (answered b (length out)) (f .is)); output = g ∙ ap (readOutput b out) (sym e) }
+    record { answer = e ∙ sym (ap (said NotRead _) (f .is)); output = g ∙ ap (readOutput b out) (sym e) }
 
 pub step-15 : {b out out' : List ℕ} {count n : ℕ} {a : Reading} → Passed b count → n ≡ length (listWords (sheetPieces b)) →
     length out < n → a ≡ NotRead (refusal 15 0) → out' ≡ out → ReadStep b out a out'
@@ -146,7 +133,7 @@ unfolding readAnswer readOutput
 step-15 {b} {out} s e l r g =
     let ws = listWords (sheetPieces b) in
     record {
-      answer = r ∙ sym (ap (answered b (length out)) (no-none s) ∙ rw (lt-leb (length ws) (length out) (omega arith)));
+      answer = r ∙ sym (passed NotRead (no-none s) ∙ rw (lt-leb (length ws) (length out) (omega arith)));
       output = g ∙ ap (readOutput b out) (sym r);
     }
 

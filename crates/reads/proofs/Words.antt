@@ -3,12 +3,12 @@
 use mathlib.Core.Path.{_≡_, refl, sym, ap, _∙_}
 use mathlib.Core.Bool.{Bool, true≢false}
 use mathlib.Core.List.{List}
-use Prim.Native.Nat.{ℕ, suc, _+_, _*_, _/_, _≤_, _<_}
+use Prim.Native.Nat.{ℕ, suc, _+_, _*_, _/_, _≤_}
 use native.Mathlib.Omega.{arith}
 use native.Mathlib.Numerals.{add-one}
 use native.Mathlib.Nat.{zero-add}
-use lib.ListN.{length, getD, set, take, drop, drop-of-length-le, length-set}
-use lib.Seq.{sets, drop-cons, length-take-le}
+use lib.ListN.{length, set, take}
+use lib.Seq.{sets, length-take-le}
 use Rattle.defs.specs.Meaning.Limits.{mostVertices}
 use Rattle.defs.specs.Meaning.Sheet.{sheetV, sheetR, pieceNumber, pieceWords}
 use Rattle.defs.specs.Computing.Test.{chainBy}
@@ -18,31 +18,9 @@ use Rattle.laws.proofs.SheetChains.{length-vertexWords}
 use Rattle.laws.proofs.Walks.{chain-few}
 use Rattle.asked.specs.Answers.{FirstNo}
 use Rattle.sheets.proofs.Chains.{Ends, Ill, chain-more}
-use Rattle.sheet.specs.Records.{recordNumber, nextVertex, Gathered}
-use Rattle.sheet.proofs.Copies.{outline-is, piece-ends, piece-ill, gathered-long}
+use Rattle.records.specs.Records.{recordNumber, nextVertex, Gathered}
+use Rattle.records.proofs.Copies.{outline-is, piece-ends, piece-ill, gathered-long}
 use Rattle.reads.specs.Put.{Put, PieceAt, VertexEnds, PieceFits, PieceCounted}
-
--- i words are copied; what is left to copy gives the whole
-pub record Copying (w out₀ out : List ℕ) (to i : ℕ) : Type 0 where
-  pub within : i ≤ length w
-  pub long : length out ≡ length out₀
-  pub left : sets out (to + i) (drop i w) ≡ sets out₀ to w
-
-pub copy-start : (w out : List ℕ) (to : ℕ) → Copying w out out to 0
-copy-start w out to = let e : to + 0 ≡ to = omega arith in record { within = omega arith; long = refl; left = rw e }
-
-module _ {w out₀ out : List ℕ} {to i : ℕ} (s : Copying w out₀ out to i) where
-  pub copy-next : i < length w → Copying w out₀ (set out (to + i) (getD w i 0)) to (i + 1)
-  copy-next l =
-      let j : to + (i + 1) ≡ suc (to + i) = omega arith in
-      record {
-        within = omega arith;
-        long = simp length-set (s .long);
-        left = rw (j, add-one i) (rw (drop-cons w i 0 l) at (s .left));
-      }
-
-  pub copy-end : length w ≤ i → out ≡ sets out₀ to w
-  copy-end l = rw (drop-of-length-le w l) at (s .left)
 
 mask-of : (b : List ℕ) (at : ℕ) → pieceOf b at .mask ≡ pieceNumber b at 1
 unfolding pieceOf

@@ -13,17 +13,17 @@ ghost use Rattle.reads.specs.Steps.{Asked, Begun, Counted, Passed, fourt
 use defs::Figures;
 use defs::Reading;
 use defs::Refusal;
-use sheet::Chain;
+use records::Chain;
 
 // The first of questions 7 to 11 that gets "no" for piece record `at`, else 0. The outline is lent from a local.
 fn piece_no(sheet: &[u8], v: usize, at: usize) -> u16
     requires { ⌜ PieceAt (now sheet) v at ⌝ ∗ ⌜ 1 ≤ sheetR (now sheet) ⌝ }
     ensures { λ r. ⌜ r ≡ sheetPieceNo (now (sheet .entry)) at ⌝ }
 {
-    let piece = sheet::visit(sheet, v + at);
+    let piece = records::visit(sheet, v + at);
     let mask = piece.second;
     let mut words = [0u16; numbers::MOST_WORDS];
-    match sheet::gather(sheet, v, piece.first, &mut words) {
+    match records::gather(sheet, v, piece.first, &mut words) {
         Chain::Whole(n) => {
             let e = 2 * n;
             asked::outline_no(&words[..e], checks::nine(mask), mask)
@@ -42,15 +42,15 @@ fn first_no(sheet: &[u8], v: usize) -> No
     requires { ⌜ ChainEnds (now sheet) v ⌝ ∗ ⌜ 1 ≤ sheetR (now sheet) ⌝ }
     ensures { λ a. ⌜ Asked (now (sheet .entry)) a ⌝ }
 {
-    let mut at = sheet::number(sheet, sheet::FIRST_PIECE) as usize;
-    let mut left = sheet::MOST_PIECES;
+    let mut at = records::number(sheet, records::FIRST_PIECE) as usize;
+    let mut left = records::MOST_PIECES;
     let mut k: u16 = 1;
     while 0 < at {
         let n = piece_no(sheet, v, at);
         if n != 0 {
             return No::At(n, k);
         }
-        at = sheet::visit(sheet, v + at).next as usize;
+        at = records::visit(sheet, v + at).next as usize;
         left -= 1;
         k += 1;
     }
@@ -62,8 +62,8 @@ fn piece_words(sheet: &[u8], v: usize, at: usize) -> usize
     requires { ⌜ PieceAt (now sheet) v at ⌝ ∗ ⌜ VertexEnds (now sheet) at ⌝ }
     ensures { λ r. ⌜ PieceCounted (now (sheet .entry)) at r ⌝ }
 {
-    let piece = sheet::visit(sheet, v + at);
-    match sheet::follow(sheet, 0, v, piece.first, numbers::MOST_VERTICES) {
+    let piece = records::visit(sheet, v + at);
+    match records::follow(sheet, 0, v, piece.first, numbers::MOST_VERTICES) {
         Chain::Whole(n) => 2 + 2 * n,
         Chain::Broken => 0,
     }
@@ -74,27 +74,15 @@ fn list_words(sheet: &[u8], v: usize) -> usize
     requires { ⌜ ChainEnds (now sheet) v ⌝ ∗ ⌜ AllEnd (now sheet) (pieceRecords (now sheet)) ⌝ }
     ensures { λ r. ⌜ r ≡ length (listWords (sheetPieces (now (sheet .entry)))) ⌝ }
 {
-    let mut at = sheet::number(sheet, sheet::FIRST_PIECE) as usize;
-    let mut left = sheet::MOST_PIECES;
+    let mut at = records::number(sheet, records::FIRST_PIECE) as usize;
+    let mut left = records::MOST_PIECES;
     let mut total: usize = 1;
     while 0 < at {
         total += piece_words(sheet, v, at);
-        at = sheet::visit(sheet, v + at).next as usize;
+        at = records::visit(sheet, v + at).next as usize;
         left -= 1;
     }
     total
-}
-
-// The words, from place `to` of the output.
-fn copy_in(words: &[u16], out: &mut [u16], to: usize)
-    requires { ⌜ to + length (now words) ≤ length (now out) ⌝ }
-    ensures { λ _. ⌜ now (out .exit) ≡ sets (now (out .entry)) to (now (words .entry)) ⌝ }
-{
-    let mut i: usize = 0;
-    while i < words.len() {
-        out[to + i] = words[i];
-        i += 1;
-    }
 }
 
 // The piece of piece record `at`, from place `to` of the output: vertex count, mask, x, y pairs. Answers the place after it.
@@ -102,14 +90,14 @@ fn put_piece(sheet: &[u8], v: usize, at: usize, out: &mut [u16], to: usize) -> u
     requires { ⌜ PieceFits (now sheet) v at (now out) to ⌝ }
     ensures { λ r. ⌜ Put (now (out .entry)) (now (out .exit)) to (pieceWords (pieceOf (now (sheet .entry)) at)) r ⌝ }
 {
-    let piece = sheet::visit(sheet, v + at);
+    let piece = records::visit(sheet, v + at);
     let mut words = [0u16; numbers::MOST_WORDS];
-    match sheet::gather(sheet, v, piece.first, &mut words) {
+    match records::gather(sheet, v, piece.first, &mut words) {
         Chain::Whole(n) => {
             let e = 2 * n;
             out[to] = n as u16;
             out[to + 1] = piece.second;
-            copy_in(&words[..e], out, to + 2);
+            words::copy_in(&words[..e], out, to + 2);
             to + 2 + e
         }
         Chain::Broken => to,
@@ -121,12 +109,12 @@ fn put_pieces(sheet: &[u8], v: usize, out: &mut [u16])
     requires { ⌜ PiecesRoom (now sheet) v (now out) ⌝ }
     ensures { λ _. ⌜ now (out .exit) ≡ sets (now (out .entry)) 1 (piecesWords (sheetPieces (now (sheet .entry)))) ⌝ }
 {
-    let mut at = sheet::number(sheet, sheet::FIRST_PIECE) as usize;
-    let mut left = sheet::MOST_PIECES;
+    let mut at = records::number(sheet, records::FIRST_PIECE) as usize;
+    let mut left = records::MOST_PIECES;
     let mut o: usize = 1;
     while 0 < at {
         o = put_piece(sheet, v, at, out, o);
-        at = sheet::visit(sheet, v + at).next as usize;
+        at = records::visit(sheet, v + at).next as usize;
         left -= 1;
     }
 }
@@ -155,9 +143,9 @@ pub fn figures_of(sheet: &[u8]) -> Figures
     ensures { λ f. ⌜ f ≡ figuresOf (now (sheet .entry)) ⌝ }
 {
     Figures {
-        width: sheet::number(sheet, sheet::WIDTH),
-        resolution: sheet::number(sheet, sheet::RESOLUTION),
-        columns: sheet::number(sheet, sheet::COLUMNS),
+        width: records::number(sheet, records::WIDTH),
+        resolution: records::number(sheet, records::RESOLUTION),
+        columns: records::number(sheet, records::COLUMNS),
     }
 }
 
@@ -188,7 +176,7 @@ fn ask_pieces(sheet: &[u8], count: usize) -> Job
     requires { ⌜ Counted (now sheet) count ⌝ }
     ensures { λ a. ⌜ JobAsked (now (sheet .entry)) true a ⌝ }
 {
-    let v = sheet::number(sheet, sheet::VERTICES) as usize;
+    let v = records::number(sheet, records::VERTICES) as usize;
     match first_no(sheet, v) {
         No::Pass => Job::Pieces(count),
         No::At(number, ordinal) => Job::No(number, ordinal),
@@ -200,7 +188,7 @@ fn ask_chain(sheet: &[u8]) -> Job
     requires { ⌜ Begun (now sheet) ⌝ }
     ensures { λ a. ⌜ JobAsked (now (sheet .entry)) true a ⌝ }
 {
-    match sheet::piece_chain(sheet) {
+    match records::piece_chain(sheet) {
         Chain::Whole(count) => ask_pieces(sheet, count),
         Chain::Broken => Job::No(6, 0),
     }
@@ -210,10 +198,10 @@ fn ask_chain(sheet: &[u8]) -> Job
 pub fn ask(sheet: &[u8], strip: Strip) -> Job
     ensures { λ a. ⌜ JobAsked (now (sheet .entry)) (fourthOf strip (sheetN (now (sheet .entry)))) a ⌝ }
 {
-    if !sheet::begins(sheet) {
+    if !records::begins(sheet) {
         return Job::No(1, 0);
     }
-    if !sheet::fits(sheet) {
+    if !records::fits(sheet) {
         return Job::No(2, 0);
     }
     let f = figures_of(sheet);
@@ -231,7 +219,7 @@ fn read_list(sheet: &[u8], count: usize, out: &mut [u16]) -> Reading
     requires { ⌜ Passed (now sheet) count ⌝ }
     ensures { λ a. ⌜ ReadStep (now (sheet .entry)) (now (out .entry)) a (now (out .exit)) ⌝ }
 {
-    let v = sheet::number(sheet, sheet::VERTICES) as usize;
+    let v = records::number(sheet, records::VERTICES) as usize;
     let n = list_words(sheet, v);
     if out.len() < n {
         return refused(15, 0);

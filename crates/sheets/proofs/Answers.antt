@@ -22,7 +22,7 @@ use Rattle.sheets.proofs.Passing.{Held, none-held}
 use Rattle.sheets.proofs.ListBack.{Accepted, accepted}
 
 -- the first "no" decides the answer
-abbrev said : {A : Type 0} → (Refusal → A) → A → Option Refusal → A
+abbrev pub said : {A : Type 0} → (Refusal → A) → A → Option Refusal → A
 said refused rest o = elim o [ some r ↦ refused r | none ↦ rest ]
 
 pub not-refused : {A : Type 0} {refused : Refusal → A} {rest ok : A} (o : Option Refusal) → said refused rest o ≡ ok →
@@ -30,7 +30,7 @@ pub not-refused : {A : Type 0} {refused : Refusal → A} {rest ok : A} (o : Opti
 not-refused none e n = (refl, e)
 not-refused (some r) e n = absurd (n r e)
 
-passed : {A : Type 0} (refused : Refusal → A) {rest : A} {o : Option Refusal} → o ≡ none → said refused rest o ≡ rest
+pub passed : {A : Type 0} (refused : Refusal → A) {rest : A} {o : Option Refusal} → o ≡ none → said refused rest o ≡ rest
 passed refused {rest} e = ap (said refused rest) e
 
 -- read

@@ -3,19 +3,17 @@
 use mathlib.Core.Path.{_≡_, refl, ap, ap₂, sym, subst, _∙_}
 use mathlib.Core.Bool.{Bool, true, false, not, _&&_}
 use mathlib.Core.List.{List}
-use mathlib.Core.Logic.{_⊎_, inl, inr, ⊎-elim}
-use Prim.Native.Nat.{ℕ, zero, suc, _+_, _*_, _-_, _%_, _≤_, _<_, min, max}
+use Prim.Native.Nat.{ℕ, _+_, _*_, _-_, _%_, _≤_, _<_}
 use native.Mathlib.Omega.{arith}
 use lib.Dec.{ltb, leb}
-use borrow.Author.Tests.{lt-ltb, le-ltb, ltb-true, leb-true}
+use borrow.Author.Tests.{lt-ltb, ltb-true, leb-true}
 use Rattle.laws.proofs.Tests.{and-left, and-right}
-use Rattle.defs.specs.Meaning.Outline.{Edge, edgeAt, sides, spans, width, height, countTo, KeepsOrder, Ordered}
+use Rattle.defs.specs.Meaning.Outline.{edgeAt, sides, spans, width, height, KeepsOrder}
 use Rattle.defs.specs.Meaning.Cell.{Covered}
-use Rattle.geom.proofs.Strip.{lt-or-le}
 use Rattle.geom.proofs.Parity.{count-same}
-use Rattle.geom.proofs.Column.{clash, Met}
+use Rattle.geom.proofs.Column.{Met}
 use Rattle.geom.proofs.Cover.{S, H0, H1, W, S-spans, S-below, positive, in-order, even, cover, meet}
-use Rattle.slabs.specs.Slab.{above, Neat, Opens, InSlab, InUnits}
+use Rattle.slabs.specs.Slab.{Neat, Opens, InSlab, InUnits}
 use Rattle.slabs.proofs.Lines.{slab-line}
 use Rattle.slabs.proofs.Gap.{Open, met-open, open-met}
 use Rattle.slabs.proofs.Slab.{place, unit-slab, slab-unit}

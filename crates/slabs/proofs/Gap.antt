@@ -1,16 +1,16 @@
 -- The rows met in a slab, without naming the next edge: row j is open above edge i.
 -- Assumes nothing.
-use mathlib.Core.Path.{_≡_, refl, ap, ap₂, sym, subst, _∙_}
-use mathlib.Core.Bool.{Bool, true, false, not, _&&_}
+use mathlib.Core.Path.{_≡_, ap, ap₂}
+use mathlib.Core.Bool.{Bool, true, not, _&&_}
 use mathlib.Core.Logic.{_⊎_, inl, inr, ⊎-elim}
-use Prim.Native.Nat.{ℕ, zero, suc, _+_, _*_, _-_, _%_, _≤_, _<_, min, max}
+use Prim.Native.Nat.{ℕ, _+_, _*_, _-_, _%_, _≤_, _<_, min, max}
 use native.Mathlib.Omega.{arith}
 use native.Mathlib.Nat.{mul-lt-mul-of-pos-right, lt-of-mul-lt-mul-right}
 use lib.Dec.{ltb}
 use Rattle.laws.proofs.Tests.{and-left, and-right}
 use Rattle.defs.specs.Meaning.Outline.{countTo}
 use Rattle.geom.proofs.Strip.{lt-or-le}
-use Rattle.geom.proofs.Column.{clash, Top, topmost, count-split, Met, mid, rank, not-lower, mid-trans, mid-irr}
+use Rattle.geom.proofs.Column.{Top, topmost, count-split, Met, mid, not-lower, mid-trans, mid-irr}
 
 -- edge i lies below row j's top, an odd number of edges is not above it, and each edge above it rises above the row's foot
 pub record Open (n : ℕ) (S : ℕ → Bool) (H0 H1 W : ℕ → ℕ) (i j : ℕ) : Type 0 where

@@ -5,13 +5,12 @@ use mathlib.Core.Bool.{Bool, true, false, not, _&&_, _||_, true≢false}
 use mathlib.Core.Logic.{_⊎_, inl, inr, ⊎-elim}
 use Prim.Native.Nat.{ℕ, zero, suc, _+_, _*_, _-_, _/_, _%_, _≤_, _<_, min, max}
 use native.Mathlib.Omega.{arith}
-use native.Mathlib.Nat.{mul-le-mul-left, mul-le-mul-right, mul-lt-mul-of-pos-left, mul-lt-mul-of-pos-right, lt-of-mul-lt-mul-right, lt-of-mul-lt-mul-left, div-add-mod, mod-lt}
+use native.Mathlib.Nat.{mul-le-mul-left, mul-lt-mul-of-pos-left, lt-of-mul-lt-mul-right, lt-of-mul-lt-mul-left, div-add-mod, mod-lt}
 use lib.Dec.{ltb, leb, eqb}
-use borrow.Author.Tests.{lt-ltb, le-ltb, le-leb, ltb-true, ltb-false, leb-true, eqb-true, eqb-false, ne-eqb, eq-eqb}
+use borrow.Author.Tests.{lt-ltb, le-leb, ltb-true, leb-true, eqb-false, ne-eqb}
 use Rattle.laws.proofs.Tests.{and-left, and-right}
 use Rattle.defs.specs.Meaning.Outline.{Edge, spans, width, height, lower, changeOrder}
-use Rattle.geom.proofs.Strip.{le-or-lt, lt-or-le}
-use Rattle.geom.proofs.Column.{clash}
+use Rattle.geom.proofs.Strip.{lt-or-le}
 use Rattle.slabs.specs.Change.{passesb, crossesb, changesb}
 use Rattle.slabs.proofs.Lines.{slab-line}
 

@@ -1,20 +1,17 @@
 -- Slabs of any width: the rows met in a slab are those met in its unit columns.
 -- Assumes nothing.
-use mathlib.Core.Path.{_≡_, refl, ap, ap₂, sym, subst, _∙_}
+use mathlib.Core.Path.{_≡_, refl, ap, sym, subst, _∙_}
 use mathlib.Core.Bool.{Bool, true, false, not, _&&_}
-use mathlib.Core.List.{List}
 use mathlib.Core.Logic.{_⊎_, inl, inr, ⊎-elim}
-use Prim.Native.Nat.{ℕ, zero, suc, _+_, _*_, _-_, _%_, _≤_, _<_, min, max}
+use Prim.Native.Nat.{ℕ, zero, suc, _+_, _*_, _-_, _%_, _≤_, _<_}
 use native.Mathlib.Omega.{arith}
 use native.Mathlib.Numerals.{add-one}
-use native.Mathlib.Nat.{mul-pos, mul-le-mul-left, mul-le-mul-right, mul-lt-mul-of-pos-left, mul-lt-mul-of-pos-right, lt-of-mul-lt-mul-right, lt-of-mul-lt-mul-left, le-of-mul-le-mul-right}
-use lib.Dec.{ltb, leb}
-use borrow.Author.Tests.{lt-ltb, le-ltb, ltb-true, ltb-false, leb-true}
-use Rattle.laws.proofs.Tests.{and-left, and-right}
-use Rattle.defs.specs.Meaning.Outline.{countTo}
-use Rattle.geom.proofs.Strip.{lt-or-le, le-or-lt}
+use native.Mathlib.Nat.{mul-pos, mul-le-mul-left, mul-le-mul-right, mul-lt-mul-of-pos-left, lt-of-mul-lt-mul-right, lt-of-mul-lt-mul-left, le-of-mul-le-mul-right}
+use lib.Dec.{ltb}
+use borrow.Author.Tests.{lt-ltb, le-ltb}
+use Rattle.geom.proofs.Strip.{lt-or-le}
 use Rattle.geom.proofs.Parity.{count-same}
-use Rattle.geom.proofs.Column.{clash, Met, mid, rank, not-lower, lower-at, mid-of, sides-of}
+use Rattle.geom.proofs.Column.{clash, Met, mid, rank, lower-at, mid-of, sides-of}
 
 -- Two heights over L units: a unit in which the first is below x and the second above y.
 pub record Unit-of (a b : ℕ → ℕ) (x y L : ℕ) : Type 0 where

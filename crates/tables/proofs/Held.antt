@@ -2,21 +2,21 @@
 -- Assumes nothing.
 use mathlib.Core.Path.{_≡_, refl, sym, ap, subst, _∙_}
 use mathlib.Core.Logic.{_↔_}
-use mathlib.Core.Bool.{Bool, true, false, cond, _&&_, _||_, false≢true, true≢false}
+use mathlib.Core.Bool.{Bool, true, false, cond, _&&_, _||_, false≢true}
 use mathlib.Core.List.{List, [], _∷_}
-use Prim.Native.Nat.{ℕ, zero, suc, _+_, _*_, _≤_, _<_}
+use Prim.Native.Nat.{ℕ, zero, suc, _+_, _≤_, _<_}
 use native.Mathlib.Omega.{arith}
 use native.Mathlib.Decide.{decLt}
 use lib.Dec.{leb, ltb, eqb}
 use lib.ListN.{length, getD}
 use Rattle.geom.proofs.Stretches.{Valid, no-rows}
 use Rattle.laws.proofs.Lists.{length-listFrom}
-use Rattle.defs.specs.Meaning.Strip.{widthOf, columnsOf, firstOf, lowOf, highOf, nextOf, Chained, Holds}
+use Rattle.defs.specs.Meaning.Strip.{widthOf, columnsOf, firstOf, lowOf, highOf, nextOf, Holds}
 use Rattle.defs.specs.Computing.Test.{any, listFrom, chainBy}
 use Rattle.defs.specs.Computing.Cells.{Rows, inRows}
 use Rattle.defs.specs.Computing.Words.{recordsOf, occurrences, wellFormedb, rowsOf, runsOf, columnsRuns}
 use borrow.Author.Tests.{leb-true, ltb-true, eqb-true, le-leb}
-use Rattle.laws.proofs.Tests.{and-left, and-right, and-both, or-right}
+use Rattle.laws.proofs.Tests.{and-left, and-right, or-right}
 use Rattle.laws.proofs.Chains.{chained-of}
 use Rattle.laws.proofs.Occurs.{occurs-here, occurs-there, without-zero}
 use Rattle.tables.proofs.Columns.{column-at, column-past}

@@ -18,3 +18,4 @@ pub mod WrittenWords
 pub mod Written
 pub mod Strips
 pub mod Empty
+pub mod Copies

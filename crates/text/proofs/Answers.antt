@@ -2,11 +2,10 @@
 -- Assumes nothing.
 use mathlib.Core.Path.{_≡_, refl, sym, ap, _∙_}
 use mathlib.Core.Bool.{Bool, true, false}
-use mathlib.Core.Option.{Option, none, some}
+use mathlib.Core.Option.{none, some}
 use mathlib.Core.List.{List, [], _∷_, _++_}
 use Prim.Native.Nat.{ℕ, _+_, _*_, _≤_, _<_}
 use native.Mathlib.Omega.{arith}
-use lib.Dec.{leb}
 use lib.ListN.{length, take, drop, length-append, length-map}
 use lib.Seq.{sets-eq, take-at, length-take-le}
 use borrow.Author.Tests.{lt-leb}
@@ -18,20 +17,19 @@ use Rattle.defs.specs.declared.Laying.the-variants.{Laid, Refused as NotLaid}
 use Rattle.defs.specs.Meaning.Limits.{mostPieces, mostColumns}
 use Rattle.defs.specs.Meaning.Sheet.{sheetW, sheetR, sheetN}
 use Rattle.defs.specs.Computing.Ascii.{ascii}
-use Rattle.defs.specs.Computing.Test.{ask}
 use Rattle.defs.specs.Computing.Words.{limitsb, lengthb}
 use Rattle.defs.specs.Computing.Calls.{refusal}
 use Rattle.defs.specs.Computing.Sheets.{q1b, q2b, q6b, pieceOf, pieceRecords, sheetPieces, sheetNo}
-use Rattle.defs.specs.Computing.Lay.{entriesWords, layEntries, layAnswer, placedIn, usedIn, layOutput, LayStep}
+use Rattle.defs.specs.Computing.Lay.{entriesWords, layEntries, layAnswer, layOutput, LayStep}
 use Rattle.defs.specs.Computing.Text.{spaced, line, entryLines, programStrip, programWork, layText}
 use Rattle.laws.proofs.Questions.{question-2, question-3}
 use Rattle.sheets.proofs.Asking.{asked, some-none}
 use Rattle.sheets.proofs.Passing.{few-read}
-use Rattle.sheets.proofs.Answers.{figuresOf, not-refused}
+use Rattle.sheets.proofs.Answers.{said, figuresOf, not-refused}
 use Rattle.reads.specs.Put.{Put}
 use Rattle.text.specs.Lines.{fourLines, totalsLine, laidLines, LaidFits}
 use Rattle.text.specs.Lent.{StripFor, exact, early, StripWords, Answered, Passes, Shows}
-use Rattle.text.proofs.Puts.{put-long, spaced-few}
+use Rattle.print.proofs.Puts.{put-long, spaced-few}
 use Rattle.text.proofs.Lines.{strip-few, lines-few}
 use Rattle.text.proofs.Entries.{job-words, job-lines}
 
@@ -79,14 +77,7 @@ lay-refused r e = let z : _≡_ {A = ℕ} 0 1 = cc in omega arith
 answer-no : (b : List ℕ) (strip out work : ℕ) (r : Refusal) → sheetNo b (lengthb (sheetN b) strip) ≡ some r →
     layAnswer b strip out work ≡ NotLaid r
 unfolding layAnswer
-answer-no b strip out work r e =
-    ap (λ (o : Option Refusal). elim o [
-      | some r ↦ NotLaid r
-      | none ↦
-          ask (leb (4 * length (pieceRecords b)) out) (NotLaid (refusal 15 0)) λ _.
-          let es = layEntries b strip work in
-          Laid (record { placed = placedIn es; used = usedIn (sheetR b) (sheetPieces b) es })
-    ]) e
+answer-no b strip out work r e = ap (said NotLaid _) e
 
 same-answer : {b : List ℕ} {n : ℕ} (out work : ℕ) → StripFor b n → layAnswer b n out work ≡ layAnswer b (programStrip b) out work
 same-answer {b} out work (exact e) = ap (λ (n : ℕ). layAnswer b n out work) e

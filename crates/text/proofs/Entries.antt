@@ -4,15 +4,13 @@ use mathlib.Core.Path.{_≡_, refl, sym, ap, _∙_}
 use mathlib.Core.Bool.{Bool, true, false}
 use mathlib.Core.Option.{Option, none, some}
 use mathlib.Core.List.{List, [], _∷_, _++_, append-assoc}
-use Prim.Native.Nat.{ℕ, suc, _+_, _*_, _≤_}
+use Prim.Native.Nat.{ℕ, _+_, _*_, _≤_}
 use native.Mathlib.Omega.{arith}
 use lib.Dec.{eqb}
 use lib.ListN.{length, getD, drop, length-append}
 use lib.Seq.{getD-drop, drop-drop}
 use borrow.Author.Tests.{eqb-false}
 use Rattle.defs.specs.declared.Position.{Position}
-use Rattle.defs.specs.declared.Fate.{Fate}
-use Rattle.defs.specs.declared.Fate.the-variants.{Placed as FatePlaced, Refused as FateRefused}
 use Rattle.defs.specs.declared.Entry.{Entry}
 use Rattle.defs.specs.declared.Placing.{Placing}
 use Rattle.defs.specs.declared.Placing.the-variants.{Placed, Refused as NotPlaced}
@@ -24,6 +22,7 @@ use Rattle.defs.specs.Computing.Search.{bestBelow}
 use Rattle.defs.specs.Computing.Calls.{refusal, q9b, q12b, q14b, outlineNo, choose, placeOn}
 use Rattle.defs.specs.Computing.Lay.{fateOf, heldAfter, entriesFrom, entriesWords}
 use Rattle.defs.specs.Computing.Text.{decimal, entryLine, entryLines}
+use Rattle.laws.proofs.Entries.{length-entriesFrom, length-entriesWords}
 use Rattle.text.specs.Lines.{fourLine, fourLines}
 use Rattle.text.proofs.Lines.{fate-placed, fate-refused}
 
@@ -63,23 +62,6 @@ in-order W R N Q words i held (p ∷ ps) =
     an-entry a (place-numbered W R N Q held (p .outline) (p .mask) words)
     (in-order W R N Q words (i + 1) (heldAfter W R held (p .outline) a) ps)
 
-entries-long : (W R N Q words k : ℕ) (held : List (List Rows)) (ps : List Piece) →
-    length (entriesFrom W R N Q words k held ps) ≡ length ps
-unfolding entriesFrom
-entries-long W R N Q words k held [] = refl
-entries-long W R N Q words k held (p ∷ ps) =
-    ap suc
-    (entries-long W R N Q words (k + 1) (heldAfter W R held (p .outline) (placeOn W R N Q held (p .outline) (p .mask) words)) ps)
-
-fate-long : (f : Fate) → length (fateWords f) ≡ 4
-fate-long (FatePlaced p) = refl
-fate-long (FateRefused n) = refl
-
-words-long : (es : List Entry) → length (entriesWords es) ≡ 4 * length es
-unfolding entriesWords
-words-long [] = refl
-words-long (e ∷ es) = omega (arith, length-append (fateWords (e .fate)) (entriesWords es), fate-long (e .fate), words-long es)
-
 -- the line of one entry, from its words
 abbrev word : Placing → List ℕ → ℕ → ℕ
 word a more i = getD (fateWords (fateOf a) ++ more) i 0
@@ -117,9 +99,9 @@ module _ (W R N Q words : ℕ) (held : List (List Rows)) (ps : List Piece) (ws r
   pub job-words : 4 * length ps ≤ length ws
   job-words =
       let es = entriesFrom W R N Q words 1 held ps in
-      omega (arith, ap length e, length-append (entriesWords es) rest, words-long es, entries-long W R N Q words 1 held ps)
+      omega (arith, ap length e, length-append (entriesWords es) rest, length-entriesWords es, length-entriesFrom W R N Q words 1 held ps)
 
   pub job-lines : fourLines ws 0 (length ps) ≡ entryLines (entriesFrom W R N Q words 1 held ps)
   job-lines =
-      ap (fourLines ws 0) (sym (entries-long W R N Q words 1 held ps)) ∙
+      ap (fourLines ws 0) (sym (length-entriesFrom W R N Q words 1 held ps)) ∙
       lines-are ws rest (in-order W R N Q words 0 held ps) e

@@ -1,4 +1,3 @@
-pub mod Puts
 pub mod Lines
 pub mod Entries
 pub mod Answers

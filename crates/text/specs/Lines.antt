@@ -1,22 +1,15 @@
 -- The lines that are put, from the numbers that are at hand.
 -- Assumes nothing.
-use mathlib.Core.Path.{_≡_}
 use mathlib.Core.Bool.{cond}
 use mathlib.Core.List.{List, [], _∷_, _++_}
-use Prim.Native.Nat.{ℕ, zero, suc, _+_, _*_, _≤_, _<_}
+use Prim.Native.Nat.{ℕ, zero, suc, _+_, _*_, _≤_}
 use lib.Dec.{eqb}
-use lib.ListN.{length, getD, drop}
+use lib.ListN.{length, getD}
 use Rattle.defs.specs.declared.Figures.{Figures}
 use Rattle.defs.specs.declared.Totals.{Totals}
 use Rattle.defs.specs.Meaning.Limits.{mostPieces}
 use Rattle.defs.specs.Computing.Ascii.{ascii}
 use Rattle.defs.specs.Computing.Text.{decimal, spaced, line}
-
--- the digits of n stand from place r to the end
-pub record Spelled (n : ℕ) (text : List ℕ) (r : ℕ) : Type 0 where
-  pub few : r < 5
-  pub long : length text ≡ 5
-  pub is : drop r text ≡ decimal n
 
 -- `line`, of a word that is bytes
 abbrev pub lined : List ℕ → List ℕ → List ℕ

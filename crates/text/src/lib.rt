@@ -2,21 +2,18 @@
 
 ghost use mathlib.Core.Path.{_≡_};
 ghost use mathlib.Core.List.{[], _∷_};
-ghost use Prim.Native.Nat.{_+_, _*_, _%_, _≤_};
+ghost use Prim.Native.Nat.{_+_, _*_, _≤_};
 ghost use lib.ListN.{length, take};
 ghost use Rattle.defs.specs.Computing.Sheets.{pieceRecords};
-ghost use Rattle.defs.specs.Computing.Text.{decimal, spaced, line, layText};
+ghost use Rattle.defs.specs.Computing.Text.{line, layText};
 ghost use Rattle.reads.specs.Put.{Put};
-ghost use Rattle.text.specs.Lines.{Spelled, lined, fateLine, fourLine, fourLines, totalsLine, laidLines, EntriesFit, LaidFits};
+ghost use Rattle.text.specs.Lines.{lined, fateLine, fourLine, fourLines, totalsLine, laidLines, EntriesFit, LaidFits};
 ghost use Rattle.text.specs.Lent.{StripFor, StripWords, Answered, Passes, Shows};
 use defs::Figures;
 use defs::Laying;
 use defs::Refusal;
 use defs::Totals;
-use sheet::Chain;
-
-// The bytes of a number, at most.
-const DIGITS: usize = 5;
+use records::Chain;
 
 // The words of an entry.
 const ENTRY_WORDS: usize = 4;
@@ -24,82 +21,22 @@ const ENTRY_WORDS: usize = 4;
 // What the program lends: records and words. The strip has room for the most columns.
 const RECORDS: usize = 4000;
 
-const WORK: usize = 9000;
+pub const WORK: usize = 9000;
 
-const ENTRIES: usize = 800;
+pub const ENTRIES: usize = 800;
 
-const STRIP: usize = 20100;
+pub const STRIP: usize = 20100;
 
 // The text of every job fits.
 pub const ROOM: usize = 8192;
-
-// The bytes, from place `at` of the output. Answers the place after them.
-fn put(out: &mut [u8], at: usize, bytes: &[u8]) -> usize
-    requires { ⌜ at + length (now bytes) ≤ length (now out) ⌝ }
-    ensures { λ r. ⌜ Put (now (out .entry)) (now (out .exit)) at (now (bytes .entry)) r ⌝ }
-{
-    let mut i: usize = 0;
-    while i < bytes.len() {
-        out[at + i] = bytes[i];
-        i += 1;
-    }
-    at + bytes.len()
-}
-
-// The last digit.
-fn digit(n: u16) -> u8
-    ensures { λ d. ⌜ d ≡ 48 + n % 10 ⌝ }
-{
-    48 + (n % 10) as u8
-}
-
-// The digits of n, at the end of the five bytes. Answers where they begin.
-fn spell(n: u16, text: &mut [u8; DIGITS]) -> usize
-    requires { ⌜ length (now text) ≡ 5 ⌝ }
-    ensures { λ r. ⌜ Spelled n (now (text .exit)) r ⌝ }
-{
-    let mut rest = n;
-    let mut i: usize = DIGITS - 1;
-    text[i] = digit(rest);
-    while 10 <= rest {
-        rest /= 10;
-        i -= 1;
-        text[i] = digit(rest);
-    }
-    i
-}
-
-fn put_decimal(out: &mut [u8], at: usize, n: u16) -> usize
-    requires { ⌜ at + 5 ≤ length (now out) ⌝ }
-    ensures { λ r. ⌜ Put (now (out .entry)) (now (out .exit)) at (decimal n) r ⌝ }
-{
-    let mut text = [0u8; DIGITS];
-    let from = spell(n, &mut text);
-    put(out, at, &text[from..])
-}
-
-// Each number after a space.
-fn put_spaced(out: &mut [u8], at: usize, numbers: &[u16]) -> usize
-    requires { ⌜ at + 6 * length (now numbers) ≤ length (now out) ⌝ }
-    ensures { λ r. ⌜ Put (now (out .entry)) (now (out .exit)) at (spaced (now (numbers .entry))) r ⌝ }
-{
-    let mut i: usize = 0;
-    let mut to = at;
-    while i < numbers.len() {
-        out[to] = b' ';
-        to = put_decimal(out, to + 1, numbers[i]);
-        i += 1;
-    }
-    to
-}
 
 // A word with the numbers after it, to the end of the line.
 fn put_line(out: &mut [u8], at: usize, word: &[u8], numbers: &[u16]) -> usize
     requires { ⌜ at + length (now word) + 6 * length (now numbers) + 1 ≤ length (now out) ⌝ }
     ensures { λ r. ⌜ Put (now (out .entry)) (now (out .exit)) at (lined (now (word .entry)) (now (numbers .entry))) r ⌝ }
 {
-    let a = put(out, at, word);
-    let b = put_spaced(out, a, numbers);
+    let a = print::put(out, at, word);
+    let b = print::put_spaced(out, a, numbers);
     out[b] = b'\n';
     b + 1
 }
@@ -120,7 +57,7 @@ fn put_entry(out: &mut [u8], at: usize, ordinal: u16, n: u16, t: u16, c: u16, h:
     requires { ⌜ at + 31 ≤ length (now out) ⌝ }
     ensures { λ r. ⌜ Put (now (out .entry)) (now (out .exit)) at (fourLine ordinal n t c h) r ⌝ }
 {
-    let a = put_decimal(out, at, ordinal);
+    let a = print::put_decimal(out, at, ordinal);
     put_fate(out, a, n, t, c, h)
 }
 
@@ -152,8 +89,8 @@ fn put_totals(out: &mut [u8], at: usize, t: Totals) -> usize
     requires { ⌜ at + 24 ≤ length (now out) ⌝ }
     ensures { λ r. ⌜ Put (now (out .entry)) (now (out .exit)) at (totalsLine t) r ⌝ }
 {
-    let a = put(out, at, b"used");
-    let b = put_spaced(out, a, &[t.used]);
+    let a = print::put(out, at, b"used");
+    let b = print::put_spaced(out, a, &[t.used]);
     put_line(out, b, b" placed", &[t.placed])
 }
 
@@ -179,7 +116,7 @@ fn pieces_of(sheet: &[u8]) -> usize
     requires { ⌜ Passes (now sheet) ⌝ }
     ensures { λ n. ⌜ n ≡ length (pieceRecords (now (sheet .entry))) ⌝ }
 {
-    match sheet::piece_chain(sheet) {
+    match records::piece_chain(sheet) {
         Chain::Whole(n) => n,
         Chain::Broken => 0,
     }
@@ -226,13 +163,13 @@ fn lay_strip(sheet: &[u8], strip: &mut [u16], out: &mut [u8]) -> usize
 }
 
 // The words of the strip to lend. Where the sheet is refused before 4 any number serves.
-fn strip_words(sheet: &[u8]) -> usize
+pub fn strip_words(sheet: &[u8]) -> usize
     ensures { λ n. ⌜ StripWords (now (sheet .entry)) n ⌝ }
 {
-    if sheet.len() < sheet::FRONT_BYTES {
+    if sheet.len() < records::FRONT_BYTES {
         return 0;
     }
-    let columns = sheet::number(sheet, sheet::COLUMNS);
+    let columns = records::number(sheet, records::COLUMNS);
     if limits::MOST_COLUMNS < columns {
         return 0;
     }

@@ -13,7 +13,7 @@ use Rattle.defs.specs.Computing.Calls.{q9b}
 use Rattle.defs.specs.Computing.Sheets.{verticesIn, listTails, listPieces, listPieceNo, q6Listb, q7Listb, firstNo}
 use Rattle.laws.proofs.Questions.{question-6-list, question-7-list}
 use Rattle.asked.specs.Answers.{FirstNo}
-use Rattle.sheet.proofs.Refusals.{no-end, no-on, no-here}
+use Rattle.records.proofs.Refusals.{no-end, no-on, no-here}
 use Rattle.sheets.proofs.Asking.{asked, not-zero}
 use Rattle.writes.specs.Steps.{PieceWhole, PieceNo, NoneRefused, FirstRefused, firstRefusal}
 use Rattle.writes.proofs.Tails.{piecesFrom, count-is, tail-is, vertices-sum}

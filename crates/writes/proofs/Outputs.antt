@@ -2,7 +2,7 @@
 -- Assumes nothing.
 use mathlib.Core.Path.{_≡_, sym, ap, _∙_}
 use mathlib.Core.Bool.{true, false}
-use mathlib.Core.Option.{Option, none, some}
+use mathlib.Core.Option.{none, some}
 use mathlib.Core.List.{List, _++_}
 use Prim.Native.Nat.{ℕ, zero, suc, _+_, _*_, _≤_, _<_}
 use native.Mathlib.Omega.{arith}
@@ -11,11 +11,9 @@ use lib.Dec.{leb}
 use lib.ListN.{length, getD, drop}
 use lib.Seq.{sets, sets-eq}
 use borrow.Author.Tests.{le-leb, lt-leb}
-use Rattle.defs.specs.declared.Refusal.{Refusal}
 use Rattle.defs.specs.declared.Writing.{Writing}
 use Rattle.defs.specs.declared.Writing.the-variants.{Written, Refused as NotWritten}
 use Rattle.defs.specs.Meaning.Limits.{mostBytes}
-use Rattle.defs.specs.Computing.Test.{ask}
 use Rattle.defs.specs.Computing.Words.{limitsb}
 use Rattle.defs.specs.Computing.Calls.{refusal}
 use Rattle.defs.specs.Computing.Sheets.{sizeOf, sheetBytes, listTails, listPieces, listPieceNo, listNo, q6Listb, firstNo, writeAnswer, writeOutput, WriteStep}
@@ -23,7 +21,7 @@ use Rattle.laws.proofs.Questions.{question-3, question-6-list}
 use Rattle.sheets.proofs.Asking.{first-none}
 use Rattle.sheets.proofs.ListBack.{complete}
 use Rattle.sheets.proofs.SheetBack.{sheet-long}
-use Rattle.sheets.proofs.Answers.{write-grants}
+use Rattle.sheets.proofs.Answers.{said, passed, write-grants}
 use Rattle.writes.specs.Fits.{Complete, no-piece, a-piece, SheetFits}
 use Rattle.writes.specs.Steps.{FirstRefused, firstRefusal, Begun, Passed}
 use Rattle.writes.proofs.Tails.{tails-long}
@@ -101,18 +99,6 @@ sheet-fits {R = R} {list = list} s l =
 
 -- the step
 
--- the first "no" decides the answer
-abbrev answered : List ℕ → ℕ → Option Refusal → Writing
-answered list bytes refused =
-    elim refused [
-      | some r ↦ NotWritten r
-      | none ↦
-          let size = sizeOf (listPieces list) in
-          ask (leb size mostBytes) (NotWritten (refusal 2 0)) λ _.
-          ask (leb size bytes) (NotWritten (refusal 15 0)) λ _.
-          Written size
-    ]
-
 kept : {W R N : ℕ} {list out out' : List ℕ} {a : Writing} {n k : ℕ} → a ≡ NotWritten (refusal n k) →
     NotWritten (refusal n k) ≡ writeAnswer W R N list (length out) → out' ≡ out → WriteStep W R N list out a out'
 unfolding writeOutput
@@ -121,7 +107,7 @@ kept {W} {R} {N} {list} {out} e f g = record { answer = e ∙ f; output = g ∙ 
 pub refused-step : {W R N : ℕ} {list out out' : List ℕ} {a : Writing} {n k : ℕ} → a ≡ NotWritten (refusal n k) →
     listNo W R N list ≡ some (refusal n k) → out' ≡ out → WriteStep W R N list out a out'
 unfolding writeAnswer
-refused-step {list = list} {out = out} e f g = kept e (sym (ap (answered list (length out)) f)) g
+refused-step {list = list} {out = out} e f g = kept e (sym (ap (said NotWritten _) f)) g
 
 module _ {W R N : ℕ} {list : List ℕ} {v n : ℕ} (s : Passed W R N list v) (e : n ≡ 16 + 6 * (v + getD list 0 0)) where
   size : n ≡ sizeOf (listPieces list)
@@ -130,14 +116,14 @@ module _ {W R N : ℕ} {list : List ℕ} {v n : ℕ} (s : Passed W R N list v) (
   pub step-2 : {a : Writing} {out out' : List ℕ} → mostBytes < n → a ≡ NotWritten (refusal 2 0) → out' ≡ out → WriteStep W R N list out a out'
   unfolding writeAnswer
   step-2 {out = out} l r g =
-      kept r (sym (ap (answered list (length out)) (no-none s) ∙ rw (lt-leb (sizeOf (listPieces list)) mostBytes (omega (arith, size))))) g
+      kept r (sym (passed NotWritten (no-none s) ∙ rw (lt-leb (sizeOf (listPieces list)) mostBytes (omega (arith, size))))) g
 
   pub step-15 : {a : Writing} {out out' : List ℕ} → n ≤ mostBytes → length out < n → a ≡ NotWritten (refusal 15 0) → out' ≡ out →
       WriteStep W R N list out a out'
   unfolding writeAnswer
   step-15 {out = out} m l r g =
       kept r
-      (sym (ap (answered list (length out)) (no-none s) ∙
+      (sym (passed NotWritten (no-none s) ∙
       rw (le-leb (sizeOf (listPieces list)) mostBytes (omega (arith, size)), lt-leb (sizeOf (listPieces list)) (length out) (omega (arith, size))))) g
 
   pub step-written : {out out' : List ℕ} → n ≤ mostBytes → n ≤ length out → out' ≡ sets out 0 (sheetBytes W R N (listPieces list)) →

@@ -20,9 +20,9 @@ fn set_record(out: &mut [u8], to: usize, x: u16, y: u16, z: u16)
     requires { ⌜ to + 6 ≤ length (now out) ⌝ }
     ensures { λ _. ⌜ now (out .exit) ≡ sets (now (out .entry)) to (recordBytes x y z) ⌝ }
 {
-    sheet::set_number(out, to, x);
-    sheet::set_number(out, to + 2, y);
-    sheet::set_number(out, to + 4, z);
+    records::set_number(out, to, x);
+    records::set_number(out, to + 2, y);
+    records::set_number(out, to + 4, z);
 }
 
 // The next of record r, where `left` records of its chain are left with it.
@@ -47,7 +47,7 @@ fn put_outline(list: &[u16], from: usize, count: usize, first: usize, out: &mut 
         a += 2;
         left -= 1;
         v += 1;
-        t += sheet::RECORD_BYTES;
+        t += records::RECORD_BYTES;
     }
 }
 
@@ -59,14 +59,14 @@ fn put_vertices(list: &[u16], count: usize, out: &mut [u8])
     let mut a: usize = 1;
     let mut left = count;
     let mut v: usize = 1;
-    let mut t = sheet::FRONT_BYTES;
+    let mut t = records::FRONT_BYTES;
     while 0 < left {
         let m = list[a] as usize;
         put_outline(list, a + 2, m, v, out, t);
         a += 2 + 2 * m;
         left -= 1;
         v += m;
-        t += sheet::RECORD_BYTES * m;
+        t += records::RECORD_BYTES * m;
     }
 }
 
@@ -87,7 +87,7 @@ fn put_pieces(list: &[u16], count: usize, out: &mut [u8], to: usize)
         left -= 1;
         r += 1;
         v += m;
-        t += sheet::RECORD_BYTES;
+        t += records::RECORD_BYTES;
     }
 }
 
@@ -109,12 +109,12 @@ fn put_front(w: u16, r: u16, n: u16, first: u16, v: u16, p: u16, out: &mut [u8])
     ensures { λ _. ⌜ now (out .exit) ≡ sets (now (out .entry)) 0 (frontBytes w r n first v p) ⌝ }
 {
     put_mark(out);
-    sheet::set_number(out, sheet::WIDTH, w);
-    sheet::set_number(out, sheet::RESOLUTION, r);
-    sheet::set_number(out, sheet::COLUMNS, n);
-    sheet::set_number(out, sheet::FIRST_PIECE, first);
-    sheet::set_number(out, sheet::VERTICES, v);
-    sheet::set_number(out, sheet::PIECES, p);
+    records::set_number(out, records::WIDTH, w);
+    records::set_number(out, records::RESOLUTION, r);
+    records::set_number(out, records::COLUMNS, n);
+    records::set_number(out, records::FIRST_PIECE, first);
+    records::set_number(out, records::VERTICES, v);
+    records::set_number(out, records::PIECES, p);
 }
 
 // The sheet of a list that passes and has v vertices. Every byte past it is kept.
@@ -129,7 +129,7 @@ fn put_sheet(w: u16, r: u16, n: u16, list: &[u16], v: usize, out: &mut [u8])
         list,
         p as usize,
         out,
-        sheet::FRONT_BYTES + sheet::RECORD_BYTES * v,
+        records::FRONT_BYTES + records::RECORD_BYTES * v,
     );
 }
 
@@ -220,7 +220,7 @@ fn count_fits(list: &[u16]) -> bool
     if list.len() < 1 {
         return false;
     }
-    list[0] as usize <= sheet::MOST_PIECES
+    list[0] as usize <= records::MOST_PIECES
 }
 
 // Questions 2 and 15 of a list of v vertices that passes the others; then its sheet.
@@ -228,8 +228,8 @@ fn write_sheet(w: u16, r: u16, n: u16, list: &[u16], v: usize, out: &mut [u8]) -
     requires { ⌜ Passed w r n (now list) v ⌝ }
     ensures { λ a. ⌜ WriteStep w r n (now (list .entry)) (now (out .entry)) a (now (out .exit)) ⌝ }
 {
-    let size = sheet::FRONT_BYTES + sheet::RECORD_BYTES * (v + list[0] as usize);
-    if sheet::MOST_BYTES < size {
+    let size = records::FRONT_BYTES + records::RECORD_BYTES * (v + list[0] as usize);
+    if records::MOST_BYTES < size {
         return refused(2, 0);
     }
     if out.len() < size {

@@ -1,8 +1,8 @@
-//! Buffers that stand directly before a page that cannot be read, so that an
-//! access past their end is a crash.
+//! Buffers between two pages that cannot be read, directly before the one or
+//! directly after the other, so that an access past that end is a crash.
 
 use std::ffi::c_void;
-use std::ops::{Deref, DerefMut};
+use std::ops::{Deref, DerefMut, Range};
 use std::slice;
 
 mod system {
@@ -40,7 +40,8 @@ impl Unit for u16 {
     const MARK: u16 = 0xD7C3;
 }
 
-/// Bytes or words that end where a page begins that cannot be read.
+/// Bytes or words that end where a page begins that cannot be read. Another such
+/// page ends where their first page begins.
 pub struct Guarded<T: Unit = u16> {
     pages: *mut c_void,
     size: usize,
@@ -51,7 +52,7 @@ pub struct Guarded<T: Unit = u16> {
 impl<T: Unit> Guarded<T> {
     pub fn new(held: &[T]) -> Guarded<T> {
         let pages_for_held = size_of_val(held).div_ceil(PAGE);
-        let size = (pages_for_held + 1) * PAGE;
+        let size = (pages_for_held + 2) * PAGE;
         unsafe {
             let pages = system::mmap(
                 std::ptr::null_mut(),
@@ -62,7 +63,8 @@ impl<T: Unit> Guarded<T> {
                 0,
             );
             assert!(!pages.is_null() && pages as isize != -1, "no memory");
-            let end = pages.cast::<u8>().add(pages_for_held * PAGE);
+            let end = pages.cast::<u8>().add((pages_for_held + 1) * PAGE);
+            assert_eq!(system::mprotect(pages, PAGE, 0), 0);
             assert_eq!(system::mprotect(end.cast(), PAGE, 0), 0);
             let start = end.sub(size_of_val(held)).cast::<T>();
             let guarded = Guarded {
@@ -99,30 +101,52 @@ impl<T: Unit> Drop for Guarded<T> {
     }
 }
 
-/// A place for one buffer after another, each of them directly before the same
-/// unreadable page, with marks before it that must stay.
+/// Which unreadable page a buffer stands at.
+#[derive(Clone, Copy, Debug)]
+pub enum End {
+    After,
+    Before,
+}
+
+/// A place for one buffer after another between two unreadable pages, with marks
+/// on the side that has no page, which must stay.
 pub struct Room<T: Unit = u16> {
     pages: Guarded<T>,
 }
 
-/// The marks watched before a buffer.
+/// The marks watched beside a buffer.
 const MARGIN: usize = 16;
 
 impl<T: Unit> Room<T> {
-    /// For buffers of up to so many bytes or words.
+    /// For buffers of up to so many bytes or words. It fills whole pages.
     pub fn new(most: usize) -> Room<T> {
+        let units = (most + MARGIN).next_multiple_of(PAGE / size_of::<T>());
         Room {
-            pages: Guarded::new(&vec![T::MARK; most + MARGIN]),
+            pages: Guarded::new(&vec![T::MARK; units]),
+        }
+    }
+
+    /// Where a buffer of this length stands, and the marks beside it.
+    fn places(&self, end: End, length: usize) -> (Range<usize>, Range<usize>) {
+        let start = self.pages.len() - length;
+        match end {
+            End::Before => (start..self.pages.len(), start - MARGIN..start),
+            End::After => (0..length, length..length + MARGIN),
         }
     }
 
     /// A buffer that holds this.
-    pub fn lend(&mut self, held: &[T]) -> &mut [T] {
-        let start = self.pages.len() - held.len();
-        self.pages[start - MARGIN..start].fill(T::MARK);
-        let lent = &mut self.pages[start..];
+    pub fn lend_at(&mut self, end: End, held: &[T]) -> &mut [T] {
+        let (buffer, marks) = self.places(end, held.len());
+        self.pages[marks].fill(T::MARK);
+        let lent = &mut self.pages[buffer];
         lent.copy_from_slice(held);
         lent
+    }
+
+    /// A buffer directly before the page after it.
+    pub fn lend(&mut self, held: &[T]) -> &mut [T] {
+        self.lend_at(End::Before, held)
     }
 
     /// What the last buffer holds, which had this length.
@@ -130,11 +154,13 @@ impl<T: Unit> Room<T> {
         &self.pages[self.pages.len() - length..]
     }
 
-    /// Whether the marks before a buffer of this length stayed.
+    /// Whether the marks beside a buffer of this length stayed.
+    pub fn kept_at(&self, end: End, length: usize) -> bool {
+        let (_, marks) = self.places(end, length);
+        self.pages[marks].iter().all(|&mark| mark == T::MARK)
+    }
+
     pub fn kept_before(&self, length: usize) -> bool {
-        let start = self.pages.len() - length;
-        self.pages[start - MARGIN..start]
-            .iter()
-            .all(|&mark| mark == T::MARK)
+        self.kept_at(End::Before, length)
     }
 }

@@ -238,6 +238,52 @@ fn small_jobs() {
     assert!(both.turns.iter().all(|&times| times > 2_000));
 }
 
+/// Pieces each of which may be a copy of the one before, or differ from it in its
+/// mask, in its last vertex or by a vertex more.
+fn nearly_copies(random: &mut Random, count: usize, size: u16) -> Vec<Piece> {
+    let mut pieces: Vec<Piece> = Vec::new();
+    for piece in sound_pieces(random, count, size) {
+        let mut next = match pieces.last() {
+            Some(last) if !random.once_in(6) => last.clone(),
+            _ => piece,
+        };
+        let before = next.clone();
+        match random.index(8) {
+            0 => next.mask = sound_mask(random),
+            1 => *next.outline.last_mut().expect("words") += 1,
+            2 => next.outline.extend([0, size]),
+            _ => (),
+        }
+        let sound = is_sound(&next.outline, next.mask);
+        pieces.push(if sound { next } else { before });
+    }
+    pieces
+}
+
+/// Copies, on strips with room for all of them, for some, and with few records.
+#[test]
+fn copies() {
+    let mut both = Both::new();
+    let mut random = Random::new(83);
+    let mut copies = 0;
+    for _ in 0..6_000 {
+        let count = random.index(30);
+        let size = random.word(2, 9);
+        let mut job = small_job(&mut random);
+        job.figures.columns = random.word(1, 60);
+        job.pieces = nearly_copies(&mut random, count, size);
+        copies += job.pieces.windows(2).filter(|two| two[0] == two[1]).count();
+        let sheet = sheet_of(&mut random, &job);
+        let q = random.between(1, 120) as usize;
+        let mut words = enough(&job, q);
+        words.work = any_work(&mut random, words.work);
+        both.granted(&job, &sheet, words);
+    }
+    println!("copies of the piece before: {copies}");
+    assert!(copies > 30_000, "{copies}");
+    both.came(6_000, 1_500, &[0], &[0, 12, 13, 14]);
+}
+
 /// Jobs that pass with an output short by one and shorter, and strips of other
 /// lengths: 4 and 15 where nothing else is wrong.
 #[test]

@@ -1,59 +1,24 @@
--- `asked::has_cell` meets its contract: the column from 0 to the extent's width has a run exactly when the turn has a cell.
+-- `has_cell` meets its contract: what the first slab shows holds, and the whole outline says the rest.
 -- Assumes nothing.
-use mathlib.Core.Path.{refl}
-use native.Mathlib.Omega.{arith}
 use borrow.Author.Needs.{needs}
-use Rattle.asked.proofs.OneColumn.{new-work, one-column}
 use Rattle.asked.proofs.has_cell.Statement.{statement}
 use Rattle.asked.proofs.has_cell.Tie as tie
 
 extent-of-requires : tie.Need-extent-of-requires
 extent-of-requires c κs = search needs
 
-slice-aggregate-column : tie.Need-slice-aggregate-column
-slice-aggregate-column c = search needs
-
-slice-aggregate-column-2 : tie.Need-slice-aggregate-column-2
-slice-aggregate-column-2 c = search needs
-
-slice-aggregate-column-3 : tie.Need-slice-aggregate-column-3
-slice-aggregate-column-3 c = search needs
-
-slice-aggregate-column-4 : tie.Need-slice-aggregate-column-4
-slice-aggregate-column-4 c = search needs
-
-slice-aggregate-column-5 : tie.Need-slice-aggregate-column-5
-slice-aggregate-column-5 c = search needs
-
-slice-aggregate-column-6 : tie.Need-slice-aggregate-column-6
-slice-aggregate-column-6 c = search needs
-
-slice-aggregate-column-7 : tie.Need-slice-aggregate-column-7
-slice-aggregate-column-7 c = search needs
-
-column-requires : tie.Need-column-requires
-column-requires c κs =
-    let p = c .before .before .before .before .before .before .before .before .before .pre in (
-      p .0,
-      (p .1 .0, ((p .1 .1 .0, omega arith), (p .1 .1 .1, new-work _ refl refl refl refl refl refl refl))),
-    )
+opens-left-requires : tie.Need-opens-left-requires
+opens-left-requires c κs = search needs
 
 returns : tie.Need-returns
-returns c =
-    let p = c .before .before .before .before .before .before .before .before .before .before .before .before .before .before .before .before .before .before .pre in
-    one-column _ _ (p .0) (p .1 .1 .1) (c .before .before .before .before .before .before .before .before .before .before .before .before .before .before .before .before .extent-of .ensures .0) (c .before .before .before .before .before .before .before .before .column .ensures)
+returns c = c .before .opens-left .ensures (c .if2 .taken)
+
+has-run-requires : tie.Need-has-run-requires
+has-run-requires c κs = search needs
+
+returns-2 : tie.Need-returns-2
+returns-2 c = search needs
 
 pub has-cell-spec : {M : Type 1} → statement M
 has-cell-spec =
-    tie.close
-    (tie.spec
-    extent-of-requires
-    slice-aggregate-column
-    slice-aggregate-column-2
-    slice-aggregate-column-3
-    slice-aggregate-column-4
-    slice-aggregate-column-5
-    slice-aggregate-column-6
-    slice-aggregate-column-7
-    column-requires
-    returns)
+    tie.close (tie.spec extent-of-requires opens-left-requires returns has-run-requires returns-2)

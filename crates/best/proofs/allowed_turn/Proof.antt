@@ -1,7 +1,7 @@
 -- An allowed turn is tried and merged; another is passed over. Assumes nothing.
 use mathlib.Core.Path.{sym, _∙_}
 use Rattle.best.proofs.Choices.{limit-few, turn-more, turn-skipped}
-use Rattle.best.proofs.Turns.{keeps-turn}
+use Rattle.best.proofs.Turns.{keeps-turn, none-in-turn}
 use borrow.Author.Needs.{needs}
 use Rattle.best.proofs.allowed_turn.Statement.{statement}
 use Rattle.best.proofs.allowed_turn.Tie as tie
@@ -16,7 +16,23 @@ limit-of-requires : tie.Need-limit-of-requires
 limit-of-requires c κs = search needs
 
 try-turn-requires : tie.Need-try-turn-requires
-try-turn-requires c κs = (c .before .before .before .before .before .before .before .before .before .before .pre .0, (c .before .before .before .before .before .before .before .before .before .before .pre .1 .0, (keeps-turn _ _ _ (c .before .before .before .before .before .before .before .before .before .before .pre .1 .0) (c .before .before .before .before .before .before .before .before .before .before .pre .1 .1 .0) (c .before .before .before .before .allows .ensures) (c .before .before .before .if1 .taken), rw (c .before .limit-of .ensures) (limit-few (c .before .before .before .before .before .before .before .before .before .before .args .s .best) _))))
+try-turn-requires c κs =
+    let pre = c .before .before .before .before .before .before .before .before .before .before .pre in
+    let ten = pre .1 .1 .0 .0 in
+    let is = c .before .before .before .before .allows .ensures in
+    let yes = c .before .before .before .if1 .taken in (
+      pre .0,
+      (
+        pre .1 .0,
+        (
+          keeps-turn _ _ _ (pre .1 .0) ten is yes,
+          (
+            rw (c .before .limit-of .ensures) (limit-few (c .before .before .before .before .before .before .before .before .before .before .args .s .best) _),
+            none-in-turn _ _ _ (pre .0 .lent) (pre .0 .least) (pre .0 .table) (pre .1 .0) ten is yes (pre .1 .1 .0 .1),
+          ),
+        ),
+      ),
+    )
 
 merge-requires : tie.Need-merge-requires
 merge-requires c κs = search needs

@@ -1,5 +1,5 @@
 -- One turn is counted, and searched where its runs fit. Assumes nothing.
-use Rattle.best.proofs.Turns.{too-many, stands, put-kept, frame, spot-fits, turn-tried}
+use Rattle.best.proofs.Turns.{too-many, stands, put-kept, frame, full-before, spot-fits, turn-tried}
 use borrow.Author.Needs.{needs}
 use Rattle.best.proofs.try_turn.Statement.{statement}
 use Rattle.best.proofs.try_turn.Tie as tie
@@ -19,11 +19,23 @@ returns c = (too-many (c .before .before .before .put-runs .ensures) _ _ _ _ (c 
 columns-for-requires : tie.Need-columns-for-requires
 columns-for-requires c κs = search needs
 
-cast-t18 : tie.Need-cast-t18
-cast-t18 c = search needs
+cast-t19 : tie.Need-cast-t19
+cast-t19 c = search needs
 
 search-requires : tie.Need-search-requires
-search-requires c κs = (frame _ _ _ (c .before .before .before .before .before .before .before .before .before .before .before .before .before .before .pre .0 .table) (stands (c .before .before .before .before .before .before .put-runs .ensures) (c .before .before .before .if1 .left)) (c .before .before .before .before .before .before .before .before .extent-of .ensures .0) (c .before .before .columns-for .ensures) (c .before .before .before .before .before .before .before .before .extent-of .ensures .1), (c .before .before .before .before .before .before .before .before .before .before .before .before .before .before .pre .0 .width, c .before .before .before .before .before .before .before .before .before .before .before .before .before .before .pre .0 .columns, c .before .before .before .before .before .before .before .before .before .before .before .before .before .before .pre .1 .1 .1))
+search-requires c κs =
+    let pre = c .before .before .before .before .before .before .before .before .before .before .before .before .before .before .pre in
+    let fits = stands (c .before .before .before .before .before .before .put-runs .ensures) (c .before .before .before .if1 .left) in
+    let extent = c .before .before .before .before .before .before .before .before .extent-of .ensures in
+    let columns = c .before .before .columns-for .ensures in (
+      frame _ _ _ (pre .0 .table) fits (extent .0) columns (extent .1),
+      (
+        pre .0 .width,
+        pre .0 .columns,
+        pre .1 .1 .1 .0,
+        full-before _ _ _ (pre .0 .table) fits (extent .0) columns (extent .1) (pre .1 .1 .1 .1),
+      ),
+    )
 
 rank-requires : tie.Need-rank-requires
 rank-requires c κs = spot-fits _ _ _ (c .before .before .before .before .before .before .before .before .before .before .before .before .before .before .before .pre .0 .table) (stands (c .before .before .before .before .before .before .before .put-runs .ensures) (c .before .before .before .before .if1 .left)) (c .before .before .before .before .before .before .before .before .before .extent-of .ensures .0) (c .before .before .before .columns-for .ensures) (c .before .before .before .before .before .before .before .before .before .extent-of .ensures .1) _ (c .search .result) (c .before .before .before .before .before .before .before .before .before .before .before .before .before .before .before .pre .0 .width) (c .before .before .before .before .before .before .before .before .before .before .before .before .before .before .before .pre .0 .columns) (c .search .ensures)
@@ -43,7 +55,7 @@ try-turn-spec =
     same-length
     returns
     columns-for-requires
-    cast-t18
+    cast-t19
     search-requires
     rank-requires
     same-length-2

@@ -1,107 +1,30 @@
-use native.Mathlib.Omega.{arith}
-use mathlib.Core.Path.{_≡_, sym, _∙_, ap}
-use Rattle.checks.proofs.Pairs.{times-width, changes-yes, changes-no}
+-- `changes` meets its contract: where one edge is nowhere above the other, the two do not change order.
+-- Assumes nothing.
+use mathlib.Core.Path.{sym, _∙_}
+use borrow.Author.Tests.{leb-true}
 use borrow.Author.Needs.{needs}
+use Rattle.checks.proofs.Levels.{under-first, under-second}
 use Rattle.checks.proofs.changes.Statement.{statement}
 use Rattle.checks.proofs.changes.Tie as tie
-use Rattle.checks.proofs.changes.Lts as lts
 
--- src/lib.rt:116:9
-more-requires : tie.Need-more-requires
-more-requires c κs = search needs
+under-requires : tie.Need-under-requires
+under-requires c κs = search needs
 
--- src/lib.rt:117:9
-less-requires : tie.Need-less-requires
-less-requires c κs = search needs
-
--- src/lib.rt:119:22
-sub-wide : tie.Need-sub-wide
-sub-wide c = search needs
-
--- src/lib.rt:119:13
-wide-requires : tie.Need-wide-requires
-wide-requires c κs = search needs
-
--- src/lib.rt:120:22
-sub-wide-2 : tie.Need-sub-wide-2
-sub-wide-2 c = search needs
-
--- src/lib.rt:120:13
-wide-requires-2 : tie.Need-wide-requires-2
-wide-requires-2 c κs = search needs
-
--- src/lib.rt:121:13
-height-at-requires : tie.Need-height-at-requires
-height-at-requires c κs = search needs
-
--- src/lib.rt:122:13
-height-at-requires-2 : tie.Need-height-at-requires-2
-height-at-requires-2 c κs = search needs
-
--- src/lib.rt:123:13
-height-at-requires-3 : tie.Need-height-at-requires-3
-height-at-requires-3 c κs = search needs
-
--- src/lib.rt:124:13
-height-at-requires-4 : tie.Need-height-at-requires-4
-height-at-requires-4 c κs = search needs
-
--- src/lib.rt:125:24
-mul-crosses : tie.Need-mul-crosses
-mul-crosses c = omega (arith, times-width _ (c .before .before .before .height-at .ensures) (c .before .before .before .before .wide2 .ensures) (c .before .before .before .before .before .before .before .before .before .before .before .pre .1 .right-most))
-
--- src/lib.rt:125:32
-mul-crosses-2 : tie.Need-mul-crosses-2
-mul-crosses-2 c = omega (arith, times-width _ (c .before .before .height-at2 .ensures) (c .before .before .before .before .before .before .wide .ensures) (c .before .before .before .before .before .before .before .before .before .before .before .pre .0 .right-most))
-
--- src/lib.rt:125:40
-mul-crosses-3 : tie.Need-mul-crosses-3
-mul-crosses-3 c = omega (arith, times-width _ (c .before .height-at3 .ensures) (c .before .before .before .before .wide2 .ensures) (c .before .before .before .before .before .before .before .before .before .before .before .pre .1 .right-most))
-
--- src/lib.rt:125:48
-mul-crosses-4 : tie.Need-mul-crosses-4
-mul-crosses-4 c = omega (arith, times-width _ (c .height-at4 .ensures) (c .before .before .before .before .before .before .wide .ensures) (c .before .before .before .before .before .before .before .before .before .before .before .pre .0 .right-most))
-
--- src/lib.rt:125:61
-sub-wide-3 : tie.Need-sub-wide-3
-sub-wide-3 c = search needs
-
--- src/lib.rt:125:56
-wide-requires-3 : tie.Need-wide-requires-3
-wide-requires-3 c κs = search needs
-
--- src/lib.rt:125:9
-crosses-requires : tie.Need-crosses-requires
-crosses-requires c κs = record { first-left = times-width _ (c .before .before .before .before .height-at .ensures) (c .before .before .before .before .before .wide2 .ensures) (c .before .before .before .before .before .before .before .before .before .before .before .before .pre .1 .right-most); second-left = times-width _ (c .before .before .before .height-at2 .ensures) (c .before .before .before .before .before .before .before .wide .ensures) (c .before .before .before .before .before .before .before .before .before .before .before .before .pre .0 .right-most); first-right = times-width _ (c .before .before .height-at3 .ensures) (c .before .before .before .before .before .wide2 .ensures) (c .before .before .before .before .before .before .before .before .before .before .before .before .pre .1 .right-most); second-right = times-width _ (c .before .height-at4 .ensures) (c .before .before .before .before .before .before .before .wide .ensures) (c .before .before .before .before .before .before .before .before .before .before .before .before .pre .0 .right-most); long = omega (arith, c .wide3 .ensures, c .before .before .before .before .before .before .before .before .before .before .less .ensures, c .before .before .before .before .before .before .before .before .before .before .before .before .pre .0 .right-most) }
-
--- src/lib.rt:125:9
 returns : tie.Need-returns
-returns c = c .crosses .ensures ∙ changes-yes _ _ (c .before .before .before .before .before .before .before .before .before .before .before .before .more .ensures) (c .before .before .before .before .before .before .before .before .before .before .before .less .ensures) (c .before .before .before .before .before .before .before .before .before .before .if1 .taken) (c .before .before .before .before .before .height-at .ensures) (c .before .before .before .before .height-at2 .ensures) (c .before .before .before .height-at3 .ensures) (c .before .before .height-at4 .ensures) (c .before .before .before .before .before .before .before .before .wide .ensures) (c .before .before .before .before .before .before .wide2 .ensures) (c .before .wide3 .ensures)
+returns c = let p = c .before .before .pre in under-first (p .0) (p .1) (leb-true _ _ (sym (c .before .under .ensures) ∙ c .if1 .taken))
 
--- src/lib.rt:112:1
+under-requires-2 : tie.Need-under-requires-2
+under-requires-2 c κs = search needs
+
 returns-2 : tie.Need-returns-2
-returns-2 c = changes-no _ _ (c .before .before .more .ensures) (c .before .less .ensures) (c .if1 .left)
+returns-2 c = let p = c .before .before .before .before .pre in under-second (p .1) (p .0) (leb-true _ _ (sym (c .before .under2 .ensures) ∙ c .if2 .taken))
+
+swaps-requires : tie.Need-swaps-requires
+swaps-requires c κs = search needs
+
+returns-3 : tie.Need-returns-3
+returns-3 c = search needs
 
 pub changes-spec : {M : Type 1} → statement M
 changes-spec =
-    tie.close
-    (tie.spec
-    more-requires
-    less-requires
-    sub-wide
-    wide-requires
-    sub-wide-2
-    wide-requires-2
-    height-at-requires
-    height-at-requires-2
-    height-at-requires-3
-    height-at-requires-4
-    mul-crosses
-    mul-crosses-2
-    mul-crosses-3
-    mul-crosses-4
-    sub-wide-3
-    wide-requires-3
-    crosses-requires
-    returns
-    returns-2)
+    tie.close (tie.spec under-requires returns under-requires-2 returns-2 swaps-requires returns-3)

@@ -1,5 +1,4 @@
-use mathlib.Core.Path.{_≡_, sym, _∙_, ap}
-use Rattle.slabs.specs.Change.{passesb, crossesb}
+use Rattle.slabs.specs.Change.{crossesb}
 use borrow.Author.Needs.{needs}
 use Rattle.checks.proofs.crosses.Statement.{statement}
 use Rattle.checks.proofs.crosses.Tie as tie

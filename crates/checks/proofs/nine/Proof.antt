@@ -1,6 +1,5 @@
 use Rattle.defs.specs.Computing.Calls.{q9b}
 use borrow.Author.Tests.{le-leb, lt-leb}
-use borrow.Author.Needs.{needs}
 use Rattle.checks.proofs.nine.Statement.{statement}
 use Rattle.checks.proofs.nine.Tie as tie
 use Rattle.checks.proofs.nine.Lts as lts

@@ -1,6 +1,5 @@
 use Rattle.defs.specs.Computing.Calls.{q7b}
 use borrow.Author.Tests.{eq-eqb, ne-eqb, le-leb, lt-leb}
-use borrow.Author.Needs.{needs}
 use Rattle.checks.proofs.seven.Statement.{statement}
 use Rattle.checks.proofs.seven.Tie as tie
 use Rattle.checks.proofs.seven.Lts as lts

@@ -1,7 +1,7 @@
 -- The bytes of a text in ASCII. Assumes nothing.
 use mathlib.Core.List.{List, [] as none-left, _∷_ as _then_}
 use Prim.Native.Nat.{ℕ}
-use Prim.Native.Char.{Char, code}
+use Prim.Native.Char.{code}
 use Prim.Native.String.{String, [], _∷_}
 
 unfoldable pub ascii : String → List ℕ

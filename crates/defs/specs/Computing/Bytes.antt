@@ -1,7 +1,7 @@
 -- "There a buffer may be passed as bytes, two to a word, low byte first; an odd last byte is no part of it and stays."
 -- Assumes nothing.
 use mathlib.Core.List.{List, [], _∷_, _++_}
-use Prim.Native.Nat.{ℕ, _+_, _*_, _/_, _%_}
+use Prim.Native.Nat.{ℕ, _+_, _*_}
 use Rattle.defs.specs.Computing.Sheets.{bytesOf}
 
 -- the words of a buffer passed as bytes

@@ -1,9 +1,9 @@
 -- Covered cells and runs, computed. Assumes nothing.
-use mathlib.Core.Bool.{Bool, true, false, cond, not, _&&_, _||_}
+use mathlib.Core.Bool.{Bool, cond, not, _&&_, _||_}
 use mathlib.Core.List.{List, [], _∷_}
 use Prim.Native.Nat.{ℕ, zero, suc, _+_, _*_, _-_, _/_, _%_, _^_, min, max}
 use lib.Dec.{ltb, leb, eqb}
-use lib.ListN.{length, getD}
+use lib.ListN.{length}
 use Rattle.defs.specs.Meaning.Outline.{sides, Edge, edgeAt, spans, width, height, countTo, changeOrder}
 use Rattle.defs.specs.Meaning.Turn.{turned, extentX, extentY}
 use Rattle.defs.specs.Meaning.Placing.{columnsFor}

@@ -1,16 +1,11 @@
 -- What program `lay` prints, as bytes. Assumes nothing.
-use mathlib.Core.Bool.{Bool, true, false, cond}
+use mathlib.Core.Bool.{cond}
 use mathlib.Core.List.{List, [], _∷_, _++_}
 use Prim.Native.Nat.{ℕ, zero, suc, _+_, _*_, _/_, _%_}
 use Prim.Native.String.{String}
 use lib.Dec.{ltb}
-use Rattle.defs.specs.declared.Refusal.{Refusal}
-use Rattle.defs.specs.declared.Totals.{Totals}
-use Rattle.defs.specs.declared.Position.{Position}
-use Rattle.defs.specs.declared.Fate.{Fate}
 use Rattle.defs.specs.declared.Fate.the-variants.{Placed, Refused}
 use Rattle.defs.specs.declared.Entry.{Entry}
-use Rattle.defs.specs.declared.Laying.{Laying}
 use Rattle.defs.specs.declared.Laying.the-variants.{Laid, Refused as NotLaid}
 use Rattle.defs.specs.Meaning.Limits.{leadingWords, recordWords, mostPieces}
 use Rattle.defs.specs.Meaning.Sheet.{sheetW, sheetR, sheetN}

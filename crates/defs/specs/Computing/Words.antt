@@ -1,9 +1,9 @@
 -- A strip's words, computed: well formed, the runs of its columns, and one way to write them. Assumes nothing.
-use mathlib.Core.Bool.{Bool, true, false, cond, not, _&&_, _||_}
+use mathlib.Core.Bool.{Bool, cond, not, _&&_, _||_}
 use mathlib.Core.List.{List, [], _∷_, _++_}
-use Prim.Native.Nat.{ℕ, zero, suc, _+_, _*_, _-_, _/_, _%_}
+use Prim.Native.Nat.{ℕ, zero, suc, _+_, _*_, _-_, _/_}
 use lib.Dec.{ltb, leb, eqb}
-use lib.ListN.{length, getD}
+use lib.ListN.{length}
 use Rattle.defs.specs.Meaning.Limits.{mostWidth, mostResolution, mostColumns, mostRecords, leadingWords, recordWords}
 use Rattle.defs.specs.Meaning.Strip.{widthOf, resolutionOf, columnsOf, firstOf, columnOf, lowOf, highOf, nextOf}
 use Rattle.defs.specs.Computing.Test.{allTo, all, listFrom, chainBy, endsBy}

@@ -2,9 +2,9 @@
 use mathlib.Core.Path.{sym, ap}
 use native.Mathlib.Omega.{arith}
 use lib.Seq.{length-take-le}
-use Rattle.sheet.specs.declared.Numbers.{Numbers}
-use Rattle.sheet.proofs.Copies.{gathered-long}
-use Rattle.laying.proofs.Pieces.{not-broken, outline, mask, ordered}
+use Rattle.records.specs.declared.Numbers.{Numbers}
+use Rattle.records.proofs.Copies.{gathered-long}
+use Rattle.laying.proofs.Pieces.{not-broken, outline, mask, ordered, none-before}
 use borrow.Author.Needs.{needs}
 use Rattle.laying.proofs.lay_piece.Statement.{statement}
 use Rattle.laying.proofs.lay_piece.Tie as tie
@@ -31,7 +31,20 @@ slice-aggregate-lay-outline : tie.Need-slice-aggregate-lay-outline
 slice-aggregate-lay-outline c = let g = rw (c .before .before .before .before .before .before .before .before .n .given .1) at (c .before .before .before .before .before .before .before .before .before .before .gather .ensures) in sym (length-take-le _ _ (omega (arith, g .few, gathered-long g)))
 
 lay-outline-requires : tie.Need-lay-outline-requires
-lay-outline-requires c κs = let g = rw (c .before .before .before .before .before .before .before .before .before .before .n .given .1) at (c .before .before .before .before .before .before .before .before .before .before .before .before .gather .ensures) in (c .before .before .before .before .before .before .before .before .before .before .before .before .before .before .before .before .before .before .before .before .before .before .before .before .pre .1 .1 .0, (ordered _ _ (c .before .before .before .before .before .before .before .before .before .before .before .before .before .before .before .before .before .before .before .before .before .before .before .before .pre .0) (ap (λ (n : Numbers). n .first) (c .before .before .before .before .before .before .before .before .before .before .before .before .before .before .visit .ensures)) (c .before .before .before .before .before .before .before .before .before .before .before .before .before .before .before .before .before .before .before .before .before .before .before .before .pre .1 .0) g (omega arith) (ap (λ (n : Numbers). n .second) (c .before .before .before .before .before .before .before .before .before .before .before .before .before .before .visit .ensures)), (c .before .before .before .before .before .before .before .before .before .before .before .before .before .before .before .before .before .before .before .before .before .before .before .before .pre .1 .1 .1 .0, c .before .before .before .before .before .before .before .before .before .before .before .before .before .before .before .before .before .before .before .before .before .before .before .before .pre .1 .1 .1 .1)))
+lay-outline-requires c κs =
+    let g = rw (c .before .before .before .before .before .before .before .before .before .before .n .given .1) at (c .before .before .before .before .before .before .before .before .before .before .before .before .gather .ensures) in
+    let pre = c .before .before .before .before .before .before .before .before .before .before .before .before .before .before .before .before .before .before .before .before .before .before .before .before .pre in
+    let first = ap (λ (n : Numbers). n .first) (c .before .before .before .before .before .before .before .before .before .before .before .before .before .before .visit .ensures) in
+    let second = ap (λ (n : Numbers). n .second) (c .before .before .before .before .before .before .before .before .before .before .before .before .before .before .visit .ensures) in (
+      pre .1 .1 .0,
+      (
+        ordered _ _ (pre .0) first (pre .1 .0) g (omega arith) second,
+        (
+          pre .1 .1 .1 .0 .0,
+          (pre .1 .1 .1 .0 .1, none-before _ _ (pre .0) first (pre .1 .0) g (omega arith) second _ (pre .1 .1 .1 .1)),
+        ),
+      ),
+    )
 
 enum-told : tie.Need-enum-told
 enum-told c = search needs

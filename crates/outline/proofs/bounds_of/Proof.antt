@@ -1,8 +1,7 @@
 use Rattle.outline.proofs.Vertices.{all-bounds}
 use native.Mathlib.Omega.{arith}
-use Prim.Native.Nat.{ℕ, _≤_, _-_}
-use mathlib.Core.Path.{_≡_, _∙_, ap}
-use lib.ListN.{length}
+use Prim.Native.Nat.{_≤_, _-_}
+use mathlib.Core.Path.{_≡_}
 use Rattle.defs.specs.Meaning.Outline.{vx, vy, sides}
 use Rattle.laws.proofs.Turns.{leastN, mostN}
 use Rattle.outline.proofs.Vertices.{least-one, most-one, least-more, most-more}

@@ -1,4 +1,5 @@
 -- 7 to 10 are asked before the others. Assumes nothing.
+use Rattle.tables.proofs.Copies.{none-before-0}
 use Rattle.place.proofs.Answers.{passed, refused-to-ten, refused-on, to-ten}
 use borrow.Author.Needs.{needs}
 use Rattle.place.proofs.place_on.Statement.{statement}
@@ -17,7 +18,13 @@ returns : tie.Need-returns
 returns c = refused-on (c .refused .ensures) (to-ten _ _ _ _ _ _ _ _ (c .before .before .before .before .before .before .before .before .before .before .before .before .pre .limits .resolution .at-least) (refused-to-ten _ _ (c .before .before .before .nine .ensures) (c .before .before .order-no .ensures) (c .before .if1 .taken)) (c .before .if1 .taken))
 
 place-asked-requires : tie.Need-place-asked-requires
-place-asked-requires c κs = (c .before .before .before .before .before .before .before .before .before .before .before .before .before .before .before .pre, passed _ _ (c .before .before .before .before .before .before .nine .ensures) (c .before .before .before .before .before .order-no .ensures) (c .before .before .before .before .if1 .left))
+place-asked-requires c κs = (
+  c .before .before .before .before .before .before .before .before .before .before .before .before .before .before .before .pre,
+  (
+    passed _ _ (c .before .before .before .before .before .before .nine .ensures) (c .before .before .before .before .before .order-no .ensures) (c .before .before .before .before .if1 .left),
+    none-before-0 _ _ _ _ _ _,
+  ),
+)
 
 same-length : tie.Need-same-length
 same-length c = search needs

@@ -3,7 +3,7 @@ use mathlib.Core.Path.{ap}
 use Prim.Native.Nat.{_<_}
 use native.Mathlib.Omega.{arith}
 use borrow.Author.Needs.{needs}
-use Rattle.sheet.specs.declared.Numbers.{Numbers}
+use Rattle.records.specs.declared.Numbers.{Numbers}
 use Rattle.reads.proofs.Asking.{Asking, ask-start, ask-next, ask-stop, ask-end}
 use Rattle.reads.proofs.Along.{along-here, along-left, along-at}
 use Rattle.reads.proofs.first_no.Statement.{statement}

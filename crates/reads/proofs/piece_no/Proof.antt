@@ -3,8 +3,8 @@ use mathlib.Core.Path.{sym, ap}
 use native.Mathlib.Omega.{arith}
 use lib.Seq.{length-take-le}
 use borrow.Author.Needs.{needs}
-use Rattle.sheet.specs.declared.Numbers.{Numbers}
-use Rattle.sheet.proofs.Copies.{gathered-long}
+use Rattle.records.specs.declared.Numbers.{Numbers}
+use Rattle.records.proofs.Copies.{gathered-long}
 use Rattle.reads.proofs.Words.{no-7, no-of}
 use Rattle.reads.proofs.piece_no.Statement.{statement}
 use Rattle.reads.proofs.piece_no.Tie as tie

@@ -4,8 +4,8 @@ use native.Mathlib.Omega.{arith}
 use lib.ListN.{length, length-set}
 use lib.Seq.{length-take-le, length-sets}
 use borrow.Author.Needs.{needs}
-use Rattle.sheet.specs.declared.Numbers.{Numbers}
-use Rattle.sheet.proofs.Copies.{gathered-long}
+use Rattle.records.specs.declared.Numbers.{Numbers}
+use Rattle.records.proofs.Copies.{gathered-long}
 use Rattle.reads.proofs.Words.{piece-put, piece-room, copy-room, not-ill}
 use Rattle.reads.proofs.put_piece.Statement.{statement}
 use Rattle.reads.proofs.put_piece.Tie as tie

@@ -2,7 +2,7 @@
 use native.Mathlib.Omega.{arith}
 use borrow.Author.Needs.{needs}
 use Rattle.text.specs.Lines.{fourLine}
-use Rattle.text.proofs.Puts.{then, decimal-few}
+use Rattle.print.proofs.Puts.{then, decimal-few}
 use Rattle.text.proofs.put_entry.Statement.{statement}
 use Rattle.text.proofs.put_entry.Tie as tie
 

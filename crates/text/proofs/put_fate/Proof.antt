@@ -3,7 +3,8 @@ use native.Mathlib.Omega.{arith}
 use borrow.Author.Needs.{needs}
 use Rattle.defs.specs.Computing.Ascii.{ascii}
 use Rattle.defs.specs.Computing.Text.{line}
-use Rattle.text.proofs.Lines.{fate-placed, fate-refused, same-put}
+use Rattle.print.proofs.Puts.{same-put}
+use Rattle.text.proofs.Lines.{fate-placed, fate-refused}
 use Rattle.text.proofs.put_fate.Statement.{statement}
 use Rattle.text.proofs.put_fate.Tie as tie
 

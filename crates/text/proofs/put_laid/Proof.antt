@@ -4,7 +4,7 @@ use borrow.Author.Needs.{needs}
 use Rattle.defs.specs.Computing.Ascii.{ascii}
 use Rattle.defs.specs.Computing.Text.{line}
 use Rattle.text.specs.Lines.{laidLines}
-use Rattle.text.proofs.Puts.{then, put-long}
+use Rattle.print.proofs.Puts.{then, put-long}
 use Rattle.text.proofs.Lines.{strip-few, lines-few}
 use Rattle.text.proofs.put_laid.Statement.{statement}
 use Rattle.text.proofs.put_laid.Tie as tie

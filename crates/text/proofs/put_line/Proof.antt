@@ -1,7 +1,8 @@
 -- Word, numbers and the end of the line, one after another. Assumes nothing.
 use native.Mathlib.Omega.{arith}
 use borrow.Author.Needs.{needs}
-use Rattle.text.proofs.Puts.{spaced-few, line-put, put-long}
+use Rattle.print.proofs.Puts.{spaced-few, put-long}
+use Rattle.text.proofs.Lines.{line-put}
 use Rattle.text.proofs.put_line.Statement.{statement}
 use Rattle.text.proofs.put_line.Tie as tie
 

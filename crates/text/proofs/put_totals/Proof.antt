@@ -5,7 +5,7 @@ use borrow.Author.Needs.{needs}
 use Rattle.defs.specs.Computing.Ascii.{ascii}
 use Rattle.defs.specs.Computing.Text.{line}
 use Rattle.text.specs.Lines.{totalsLine}
-use Rattle.text.proofs.Puts.{then, spaced-few}
+use Rattle.print.proofs.Puts.{then, spaced-few}
 use Rattle.text.proofs.put_totals.Statement.{statement}
 use Rattle.text.proofs.put_totals.Tie as tie
 

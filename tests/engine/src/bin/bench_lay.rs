@@ -19,6 +19,12 @@ const WIDTH: u16 = 8_000;
 /// As many words as the program `lay` has.
 const WORK: usize = 9_000;
 
+/// A wallet, 150 by 415 mm laid flat, in quarters of a millimetre.
+const WALLET: [u16; 28] = [
+    60, 0, 540, 0, 540, 40, 600, 72, 600, 648, 540, 680, 540, 1480, 492, 1660, 108, 1660, 60, 1480,
+    60, 680, 0, 648, 0, 72, 60, 40,
+];
+
 /// A job on a strip of so many records, with the words of its cut list.
 struct Laid {
     job: Job,
@@ -192,5 +198,13 @@ fn main() {
     for mask in [1, 15] {
         let pieces = pieces(data::NC_COUNTIES, 1, 25, mask);
         row("counties", &Laid::new(&pieces, 4, 4_096, 16_000));
+    }
+    // Copies of one piece: room for all, and for some.
+    for (r, n) in [(20, 1_500), (20, 300), (4, 4_096)] {
+        for mask in [1, 15] {
+            let outline = WALLET.to_vec();
+            let pieces = vec![Piece { outline, mask }; 100];
+            row("wallets", &Laid::new(&pieces, r, n, 16_000));
+        }
     }
 }

@@ -1,0 +1,44 @@
+-- The sheet's part of the strip is no longer than the strip. Assumes nothing.
+use mathlib.Core.Path.{sym}
+use lib.Seq.{length-take-le}
+use native.Mathlib.Omega.{arith}
+use borrow.Author.Needs.{needs}
+use Rattle.drawing.proofs.draw_part.Statement.{statement}
+use Rattle.drawing.proofs.draw_part.Tie as tie
+
+strip-words-requires : tie.Need-strip-words-requires
+strip-words-requires c κs = search needs
+
+returns : tie.Need-returns
+returns c = search needs
+
+slice-relend-prefix-draw-strip : tie.Need-slice-relend-prefix-draw-strip
+slice-relend-prefix-draw-strip c = search needs
+
+slice-aggregate-draw-strip : tie.Need-slice-aggregate-draw-strip
+slice-aggregate-draw-strip c = sym (length-take-le _ _ (omega arith))
+
+draw-strip-requires : tie.Need-draw-strip-requires
+draw-strip-requires c κs = search needs
+
+same-length : tie.Need-same-length
+same-length c = search needs
+
+same-length-2 : tie.Need-same-length-2
+same-length-2 c = search needs
+
+returns-2 : tie.Need-returns-2
+returns-2 c = search needs
+
+pub draw-part-spec : {M : Type 1} → statement M
+draw-part-spec =
+    tie.close
+    (tie.spec
+    strip-words-requires
+    returns
+    slice-relend-prefix-draw-strip
+    slice-aggregate-draw-strip
+    draw-strip-requires
+    same-length
+    same-length-2
+    returns-2)

@@ -1,0 +1,60 @@
+-- The pieces are counted. Assumes nothing.
+use Prim.Native.Nat.{_≤_, _-_}
+use mathlib.Core.Path.{_≡_}
+use lib.ListN.{length}
+use borrow.Author.Needs.{needs}
+use Rattle.drawing.proofs.put_pieces.Statement.{statement}
+use Rattle.drawing.proofs.put_pieces.Tie as tie
+
+abbrev Inv-loop : tie.InvT-loop
+Inv-loop out₀ at s list entries work₀ count i₀ from₀ to₀ out work i from to = (length out ≡ length out₀) × (length work ≡ length work₀) × (i ≤ count)
+
+abbrev μ-loop : tie.MeasureT-loop
+μ-loop out₀ at s list entries work₀ count i₀ from₀ to₀ out work i from to = count - i
+
+word-requires : tie.Need-word-requires Inv-loop μ-loop
+word-requires c κs = search needs
+
+loop-holds : tie.Need-loop-holds Inv-loop μ-loop
+loop-holds c = search needs
+
+put-piece-requires : tie.Need-put-piece-requires Inv-loop μ-loop
+put-piece-requires c κs = search needs
+
+end-of-requires : tie.Need-end-of-requires Inv-loop μ-loop
+end-of-requires c κs = search needs
+
+add-i : tie.Need-add-i Inv-loop μ-loop
+add-i c = search needs
+
+loop-less : tie.Need-loop-less Inv-loop μ-loop
+loop-less c = search needs
+
+loop-again : tie.Need-loop-again Inv-loop μ-loop
+loop-again c = search needs
+
+same-length : tie.Need-same-length Inv-loop μ-loop
+same-length c = search needs
+
+same-length-2 : tie.Need-same-length-2 Inv-loop μ-loop
+same-length-2 c = search needs
+
+returns : tie.Need-returns Inv-loop μ-loop
+returns c = search needs
+
+pub put-pieces-spec : {M : Type 1} → statement M
+put-pieces-spec =
+    tie.close
+    (tie.spec
+    Inv-loop
+    μ-loop
+    word-requires
+    loop-holds
+    put-piece-requires
+    end-of-requires
+    add-i
+    loop-less
+    loop-again
+    same-length
+    same-length-2
+    returns)

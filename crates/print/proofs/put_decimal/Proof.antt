@@ -1,0 +1,32 @@
+-- The digits at the end of the five bytes. Assumes nothing.
+use native.Mathlib.Omega.{arith}
+use borrow.Author.Needs.{needs}
+use Rattle.print.proofs.Puts.{digits-put}
+use Rattle.print.proofs.put_decimal.Statement.{statement}
+use Rattle.print.proofs.put_decimal.Tie as tie
+
+spell-requires : tie.Need-spell-requires
+spell-requires c κs = search needs
+
+sub-put : tie.Need-sub-put
+sub-put c = search needs
+
+part-put-start : tie.Need-part-put-start
+part-put-start c = search needs
+
+part-put-end : tie.Need-part-put-end
+part-put-end c = omega (arith, c .before .before .spell .ensures .long)
+
+put-requires : tie.Need-put-requires
+put-requires c κs = search needs
+
+same-length : tie.Need-same-length
+same-length c = search needs
+
+returns : tie.Need-returns
+returns c = digits-put (c .before .before .before .before .before .before .spell .ensures) (c .before .before .put .ensures)
+
+pub put-decimal-spec : {M : Type 1} → statement M
+put-decimal-spec =
+    tie.close
+    (tie.spec spell-requires sub-put part-put-start part-put-end put-requires same-length returns)

@@ -1,0 +1,71 @@
+// Bytes and numbers put into a buffer.
+
+ghost use mathlib.Core.Path.{_≡_};
+ghost use Prim.Native.Nat.{_+_, _*_, _%_, _≤_};
+ghost use lib.ListN.{length};
+ghost use Rattle.defs.specs.Computing.Text.{decimal, spaced};
+ghost use Rattle.reads.specs.Put.{Put};
+ghost use Rattle.print.specs.Spelled.{Spelled};
+
+// The bytes of a number, at most.
+const DIGITS: usize = 5;
+
+// The bytes, from place `at` of the output. Answers the place after them.
+pub fn put(out: &mut [u8], at: usize, bytes: &[u8]) -> usize
+    requires { ⌜ at + length (now bytes) ≤ length (now out) ⌝ }
+    ensures { λ r. ⌜ Put (now (out .entry)) (now (out .exit)) at (now (bytes .entry)) r ⌝ }
+{
+    let mut i: usize = 0;
+    while i < bytes.len() {
+        out[at + i] = bytes[i];
+        i += 1;
+    }
+    at + bytes.len()
+}
+
+// The last digit.
+pub fn digit(n: u16) -> u8
+    ensures { λ d. ⌜ d ≡ 48 + n % 10 ⌝ }
+{
+    48 + (n % 10) as u8
+}
+
+// The digits of n, at the end of the five bytes. Answers where they begin.
+fn spell(n: u16, text: &mut [u8; DIGITS]) -> usize
+    requires { ⌜ length (now text) ≡ 5 ⌝ }
+    ensures { λ r. ⌜ Spelled n (now (text .exit)) r ⌝ }
+{
+    let mut rest = n;
+    let mut i: usize = DIGITS - 1;
+    text[i] = digit(rest);
+    while 10 <= rest {
+        rest /= 10;
+        i -= 1;
+        text[i] = digit(rest);
+    }
+    i
+}
+
+pub fn put_decimal(out: &mut [u8], at: usize, n: u16) -> usize
+    requires { ⌜ at + 5 ≤ length (now out) ⌝ }
+    ensures { λ r. ⌜ Put (now (out .entry)) (now (out .exit)) at (decimal n) r ⌝ }
+{
+    let mut text = [0u8; DIGITS];
+    let from = spell(n, &mut text);
+    put(out, at, &text[from..])
+}
+
+// Each number after a space.
+pub fn put_spaced(out: &mut [u8], at: usize, numbers: &[u16]) -> usize
+    requires { ⌜ at + 6 * length (now numbers) ≤ length (now out) ⌝ }
+    ensures { λ r. ⌜ Put (now (out .entry)) (now (out .exit)) at (spaced (now (numbers .entry))) r ⌝ }
+{
+    let mut i: usize = 0;
+    let mut to = at;
+    while i < numbers.len() {
+        out[to] = b' ';
+        to = put_decimal(out, to + 1, numbers[i]);
+        i += 1;
+    }
+    to
+}

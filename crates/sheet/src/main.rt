@@ -1,0 +1,29 @@
+// Program `sheet`: writes the sheet of the text on standard input, or to standard error what is wrong with the text.
+
+use libc::STDERR_FILENO;
+use libc::STDIN_FILENO;
+use libc::STDOUT_FILENO;
+use readable::Made;
+
+// One byte more than a text may have, so that longer input is noticed.
+const INPUT: usize = 262145;
+
+const OUTPUT: usize = 65536;
+
+fn run(input: &mut [u8], output: &mut [u8]) {
+    let n = io::read_full(STDIN_FILENO, input);
+    match readable::sheet_of(&input[..n], output) {
+        Made::Sheet(r) => {
+            io::write_all(STDOUT_FILENO, &output[..r]);
+        }
+        Made::Message(r) => {
+            io::write_all(STDERR_FILENO, &output[..r]);
+        }
+    }
+}
+
+fn main() {
+    let mut input = [0u8; INPUT];
+    let mut output = [0u8; OUTPUT];
+    run(&mut input, &mut output);
+}

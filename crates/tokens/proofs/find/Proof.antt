@@ -1,0 +1,51 @@
+-- The place stays within the line. Assumes nothing.
+use Prim.Native.Nat.{_-_, _≤_, max}
+use lib.ListN.{length}
+use borrow.Author.Needs.{needs}
+use Rattle.tokens.proofs.find.Statement.{statement}
+use Rattle.tokens.proofs.find.Tie as tie
+
+abbrev Inv-loop : tie.InvT-loop
+Inv-loop line at a_blank i₀ i = (at ≤ i) × (i ≤ max at (length line))
+
+abbrev μ-loop : tie.MeasureT-loop
+μ-loop line at a_blank i₀ i = length line - i
+
+loop-holds : tie.Need-loop-holds Inv-loop μ-loop
+loop-holds c = search needs
+
+shared-slice-read-blank : tie.Need-shared-slice-read-blank Inv-loop μ-loop
+shared-slice-read-blank c = search needs
+
+blank-requires : tie.Need-blank-requires Inv-loop μ-loop
+blank-requires c κs = search needs
+
+returns : tie.Need-returns Inv-loop μ-loop
+returns c = search needs
+
+add-i : tie.Need-add-i Inv-loop μ-loop
+add-i c = search needs
+
+loop-less : tie.Need-loop-less Inv-loop μ-loop
+loop-less c = search needs
+
+loop-again : tie.Need-loop-again Inv-loop μ-loop
+loop-again c = search needs
+
+returns-2 : tie.Need-returns-2 Inv-loop μ-loop
+returns-2 c = search needs
+
+pub find-spec : {M : Type 1} → statement M
+find-spec =
+    tie.close
+    (tie.spec
+    Inv-loop
+    μ-loop
+    loop-holds
+    shared-slice-read-blank
+    blank-requires
+    returns
+    add-i
+    loop-less
+    loop-again
+    returns-2)
