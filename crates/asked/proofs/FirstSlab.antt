@@ -16,7 +16,7 @@ use Rattle.outline.specs.Vertex.{Lent}
 use Rattle.slabs.specs.Slab.{Neat, InSlab}
 use Rattle.slabs.proofs.Cut.{slab-covered}
 use Rattle.section.specs.Slabs.{HeldAt, Stock}
-use Rattle.column.proofs.Adding.{pair-row}
+use Rattle.gaps.proofs.Adding.{pair-row}
 use Rattle.asked.specs.Answers.{LowestApart, HasCell}
 use Rattle.asked.proofs.OneColumn.{some-side, unit-cell}
 

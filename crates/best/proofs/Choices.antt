@@ -1,58 +1,22 @@
 -- Choices by rank are the choices of the definitions.
 -- Assumes nothing.
 use mathlib.Core.Path.{_≡_, refl, sym, ap, ap₂, subst, _∙_}
-use mathlib.Core.Logic.{_≢_}
-use mathlib.Core.Bool.{Bool, true, false, cond, _||_}
+use mathlib.Core.Bool.{Bool, true, false, cond}
 use mathlib.Core.List.{List}
 use mathlib.Core.Option.{Option, none, some}
 use Prim.Native.Nat.{ℕ, suc, _+_, _≤_, _<_, max}
 use native.Mathlib.Omega.{arith}
-use lib.Dec.{ltb, eqb}
-use borrow.Author.Tests.{eq-eqb, ne-eqb, le-ltb}
+use borrow.Author.Tests.{ne-eqb, le-ltb}
 use Rattle.defs.specs.declared.Position.{Position}
 use Rattle.defs.specs.Meaning.Placing.{endColumn}
 use Rattle.defs.specs.Computing.Cells.{Rows, pieceRuns, countRuns, allowedb, mostRuns}
 use Rattle.defs.specs.Computing.Search.{firstFree, beats, better, bestBelow}
-use Rattle.best.specs.Choice.{placeOf, RankOf, Ranks, beatsBy, betterBy, merged, limitOf, Finds, FindsTo, OneTurn, TurnsTo, Kept}
-use Rattle.best.specs.declared.Ranked.{Ranked}
-use Rattle.best.specs.declared.Choice.{Choice}
-use Rattle.best.specs.declared.Choice.the-variants.{Chosen, Nowhere}
-use Rattle.best.specs.declared.Standing.{Standing}
-use Rattle.best.specs.declared.Tried.{Tried}
-
-abbrev tried : Standing → ℕ → Choice → Tried
-tried d n c = record { most = n; best = c; stands = d }
-
-pub equal-end : (q p : Ranked) → q .end ≡ p .end → ltb (q .top) (p .top) ≡ beatsBy q p
-equal-end q p e = rw (le-ltb (q .end) (p .end) (omega arith), eq-eqb (q .end) (p .end) e) refl
-
-pub other-end : (q p : Ranked) → q .end ≢ p .end → ltb (q .end) (p .end) ≡ beatsBy q p
-other-end q p n = rw (ne-eqb (q .end) (p .end) n) (or-false (ltb (q .end) (p .end)))
-  where
-    or-false : (b : Bool) → b ≡ (b || false)
-    or-false true = refl
-    or-false false = refl
-
--- the greater of two numbers of runs
-pub second-most : (s x : Tried) (c : Choice) → c ≡ betterBy (s .best) (x .best) → s .most < x .most →
-    _≡_ {A = Tried} (record { most = x .most; best = c; stands = x .stands }) (merged s x)
-second-most s x c e l = ap₂ (tried (x .stands)) (omega arith) e
-
-pub first-most : (s x : Tried) (c : Choice) → c ≡ betterBy (s .best) (x .best) → x .most ≤ s .most →
-    _≡_ {A = Tried} (record { most = s .most; best = c; stands = x .stands }) (merged s x)
-first-most s x c e l = ap₂ (tried (x .stands)) (omega arith) e
-
--- a better choice, by the tests that were made
-pub better-second : {a b : Choice} {p q : Ranked} {r : Bool} → a ≡ Chosen p → b ≡ Chosen q → r ≡ beatsBy q p → r ≡ true →
-    Chosen q ≡ betterBy a b
-better-second e g f y = rw (e, g, sym f, y) refl
-
-pub better-first : {a b : Choice} {p q : Ranked} {r : Bool} → a ≡ Chosen p → b ≡ Chosen q → r ≡ beatsBy q p → r ≡ false →
-    Chosen p ≡ betterBy a b
-better-first e g f y = rw (e, g, sym f, y) refl
-
-pub better-only : {a b : Choice} {q : Ranked} → a ≡ Nowhere → b ≡ Chosen q → Chosen q ≡ betterBy a b
-better-only e g = rw (e, g) refl
+use Rattle.ranks.specs.Ranks.{beatsBy, betterBy, merged, limitOf}
+use Rattle.best.specs.Choice.{placeOf, RankOf, Ranks, Finds, FindsTo, OneTurn, TurnsTo, Kept}
+use Rattle.ranks.specs.declared.Ranked.{Ranked}
+use Rattle.ranks.specs.declared.Choice.{Choice}
+use Rattle.ranks.specs.declared.Choice.the-variants.{Chosen, Nowhere}
+use Rattle.ranks.specs.declared.Tried.{Tried}
 
 module _ (R : ℕ) (o : List ℕ) where
   beats-rank : (q p : Ranked) → RankOf R o q → RankOf R o p → beatsBy q p ≡ beats R o (q .at) (p .at)
@@ -117,11 +81,6 @@ all-turns {t = t} a b h = let e : t ≡ 4 = omega arith in rw e at h
 -- no runs were put yet
 pub none-kept : (o : List ℕ) (R : ℕ) (work : List ℕ) → Kept o R work 4 0
 none-kept o R work = record { stand = λ few. absurd (omega arith) }
-
--- the limit is not beyond the strip
-pub limit-few : (c : Choice) (n : ℕ) → limitOf c n ≤ n
-limit-few (Chosen b) n = omega arith
-limit-few Nowhere n = omega arith
 
 -- The turns below 0, and one turn more.
 pub no-turns : (W R N : ℕ) (held : List (List Rows)) (o : List ℕ) (mask words : ℕ) →

@@ -4,8 +4,8 @@ use mathlib.Core.Path.{_≡_, refl, sym, ap, subst, _∙_}
 use mathlib.Core.Logic.{⊎-elim}
 use mathlib.Core.Bool.{Bool, true, false, cond}
 use mathlib.Core.List.{List}
-use mathlib.Core.Option.{Option, none, some, Option·some-injective, Option·none-ne-some}
-use Prim.Native.Nat.{ℕ, _+_, _-_, _*_, _/_, _≤_, _<_}
+use mathlib.Core.Option.{none, some, Option·some-injective, Option·none-ne-some}
+use Prim.Native.Nat.{ℕ, _+_, _*_, _/_, _≤_, _<_}
 use native.Mathlib.Omega.{arith}
 use lib.ListN.{length, take, drop}
 use lib.Seq.{sets, sets-eq, take-at}
@@ -16,7 +16,7 @@ use Rattle.defs.specs.Meaning.Question.{Question10}
 use Rattle.defs.specs.Meaning.Placing.{columnsFor, endColumn, top}
 use Rattle.defs.specs.Computing.Cells.{Rows, pieceRuns, allowedb}
 use Rattle.defs.specs.Computing.Calls.{runsWords}
-use Rattle.defs.specs.Computing.Search.{freeb, dropN, position, firstFree}
+use Rattle.defs.specs.Computing.Search.{freeb, dropN, firstFree}
 use Rattle.laws.proofs.Questions.{allowed}
 use Rattle.geom.proofs.Strip.{lt-or-le}
 use Rattle.geom.proofs.RunWords.{runs-length}
@@ -29,12 +29,12 @@ use Rattle.tables.proofs.Flats.{table-flat}
 use Rattle.tables.proofs.Copies.{NoneBefore, not-free}
 use Rattle.walk.specs.declared.Spot.{Spot}
 use Rattle.walk.specs.declared.Spot.the-variants.{Found, None}
-use Rattle.walk.specs.Free.{Frame, NoHeight, Searched}
+use Rattle.walk.specs.Free.{Frame, NoHeight}
 use Rattle.walk.proofs.Searches.{frame-of, free-is, found-is}
-use Rattle.round.specs.Range.{SearchedIn}
-use Rattle.best.specs.declared.Choice.{Choice}
-use Rattle.best.specs.declared.Choice.the-variants.{Nowhere}
-use Rattle.best.specs.Choice.{ranked, SpotFits, FullBefore, SearchedTo, FindsTo, NoneInTurn, OneTurn, Kept}
+use Rattle.ranks.specs.declared.Choice.{Choice}
+use Rattle.ranks.specs.declared.Choice.the-variants.{Nowhere}
+use Rattle.search.specs.Searched.{FullBefore, SearchedTo}
+use Rattle.best.specs.Choice.{ranked, SpotFits, FindsTo, NoneInTurn, OneTurn, Kept}
 
 -- words written at the start are read there
 stored-front : (l ws : List ℕ) → length ws ≤ length l → take (length ws) (sets l 0 ws) ≡ ws
@@ -59,26 +59,6 @@ module _ {o : List ℕ} {t R : ℕ} {work work' : List ℕ} {k : ℕ} (put : Put
 
   pub put-kept : Kept o R work' t k
   put-kept = record { stand = λ _ fits. stands (omega (arith, put .count)) }
-
--- a whole search, and one from the first column from which the piece ends at `lower` to the last from which it ends at `limit`
-module _ (f l h r : List ℕ) (N W p w t limit : ℕ) where
-  pub walked-to : (s : Spot) → limit ≤ N → Searched f l h r N W p w t s → SearchedTo f l h r N W p w t limit s
-  walked-to (Found c y) few e = e
-  walked-to None few e = λ c u. e c (omega arith)
-
-  pub rounded-to : {lower from end : ℕ} (s : Spot) → limit ≤ N → FullBefore f l h r N W p w t lower → from ≡ lower - w →
-      end ≡ limit + 1 - w → SearchedIn f l h r N W p w t from end s → SearchedTo f l h r N W p w t limit s
-  rounded-to {from = from} (Found c y) few full a z e =
-      record {
-        fits = e .fits;
-        height = e .height;
-        least =
-            λ b u.
-            ⊎-elim (λ before. full .none b (omega arith) (omega (arith, e .fits))) (λ after. e .least b after u) (lt-or-le b from);
-      }
-  rounded-to {from = from} None few full a z e =
-      λ c u.
-      ⊎-elim (λ before. full .none c (omega arith) (omega arith)) (λ after. e c after (omega arith) (omega arith)) (lt-or-le c from)
 
 -- what is found where a test passes
 found-where : (b : Bool) {x q : Position} → cond b (some x) none ≡ some q → (b ≡ true) × (x ≡ q)

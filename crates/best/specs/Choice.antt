@@ -1,10 +1,9 @@
 -- What is chosen among turns. Assumes nothing.
 use mathlib.Core.Path.{_≡_}
-use mathlib.Core.Bool.{Bool, true, cond, _&&_, _||_}
+use mathlib.Core.Bool.{true}
 use mathlib.Core.List.{List}
 use mathlib.Core.Option.{Option, none, some}
-use Prim.Native.Nat.{ℕ, _+_, _*_, _≤_, _<_, max, min}
-use lib.Dec.{ltb, eqb}
+use Prim.Native.Nat.{ℕ, _+_, _*_, _≤_, _<_}
 use lib.ListN.{length}
 use Rattle.defs.specs.declared.Position.{Position}
 use Rattle.defs.specs.Meaning.Turn.{extentX, extentY}
@@ -14,13 +13,12 @@ use Rattle.defs.specs.Computing.Search.{freeb, dropN, firstFree, bestBelow}
 use Rattle.outline.specs.Vertex.{Lent, BoundsOf}
 use Rattle.tables.specs.Flat.{Laid}
 use Rattle.tables.specs.Piece.{Stands}
-use Rattle.walk.specs.Free.{FirstSpot, NoHeight}
 use Rattle.walk.specs.declared.Spot.{Spot}
 use Rattle.walk.specs.declared.Spot.the-variants.{Found, None}
-use Rattle.best.specs.declared.Ranked.{Ranked}
-use Rattle.best.specs.declared.Choice.{Choice}
-use Rattle.best.specs.declared.Choice.the-variants.{Chosen, Nowhere}
-use Rattle.best.specs.declared.Tried.{Tried}
+use Rattle.ranks.specs.declared.Ranked.{Ranked}
+use Rattle.ranks.specs.declared.Choice.{Choice}
+use Rattle.ranks.specs.declared.Choice.the-variants.{Chosen, Nowhere}
+use Rattle.ranks.specs.declared.Tried.{Tried}
 
 -- the position of a choice
 abbrev pub placeOf : Choice → Option Position
@@ -35,23 +33,6 @@ pub record RankOf (R : ℕ) (o : List ℕ) (b : Ranked) : Type 0 where
 abbrev pub Ranks : ℕ → List ℕ → Choice → Type 0
 Ranks R o (Chosen b) = RankOf R o b
 Ranks R o Nowhere = Unit {0}
-
--- `beats` and `better` of the definitions, by rank
-abbrev pub beatsBy : Ranked → Ranked → Bool
-beatsBy q p = ltb (q .end) (p .end) || (eqb (q .end) (p .end) && ltb (q .top) (p .top))
-
-abbrev pub betterBy : Choice → Choice → Choice
-betterBy a Nowhere = a
-betterBy Nowhere (Chosen q) = Chosen q
-betterBy (Chosen p) (Chosen q) = cond (beatsBy q p) (Chosen q) (Chosen p)
-
-abbrev pub merged : Tried → Tried → Tried
-merged s x = record { most = max (s .most) (x .most); best = betterBy (s .best) (x .best); stands = x .stands }
-
--- a position that ends after this column, of n, does not win against the choice
-abbrev pub limitOf : Choice → ℕ → ℕ
-limitOf (Chosen b) n = min (b .end) n
-limitOf Nowhere n = n
 
 -- a spot of turn t, with its rank
 abbrev pub ranked : Spot → ℕ → ℕ → ℕ → Choice
@@ -73,15 +54,6 @@ pub record Finds (R : ℕ) (o : List ℕ) (x : Option Position) (c : Choice) : T
 abbrev pub FindsTo : ℕ → ℕ → List ℕ → Option Position → ℕ → Choice → Type 0
 FindsTo R N o x limit (Chosen b) = Finds R o x (Chosen b)
 FindsTo R N o x limit Nowhere = (q : Position) → x ≡ some q → (limit < endColumn R o q) × (endColumn R o q ≤ N)
-
--- no column from which the piece ends before column `lower` has a free height
-pub record FullBefore (f l h r : List ℕ) (N W p w t lower : ℕ) : Type 0 where
-  pub none : (c : ℕ) → c + w < lower → c + w ≤ N → NoHeight f l h r W p t c
-
--- the first free position; if none was found, none ends at column `limit` or before it
-abbrev pub SearchedTo : (f l h r : List ℕ) (N W p w t limit : ℕ) → Spot → Type 0
-SearchedTo f l h r N W p w t limit (Found c y) = FirstSpot f l h r N W p w t c y
-SearchedTo f l h r N W p w t limit None = (c : ℕ) → c + w ≤ limit → NoHeight f l h r W p t c
 
 -- an outline that passes 7 and 8, its bounds, and a table laid flat
 pub record Ready (f l h o : List ℕ) (W R N left right foot head : ℕ) : Type 0 where

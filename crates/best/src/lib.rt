@@ -1,162 +1,24 @@
 // The best position among the allowed turns.
 
 ghost use mathlib.Core.Path.{_≡_};
-ghost use Prim.Native.Nat.{_+_, _-_, _≤_, _<_};
+ghost use Prim.Native.Nat.{_+_, _≤_, _<_};
 ghost use lib.ListN.{length};
 ghost use Rattle.defs.specs.Meaning.Outline.{KeepsOrder};
 ghost use Rattle.defs.specs.Meaning.Turn.{turned};
-ghost use Rattle.defs.specs.Meaning.Placing.{columnsFor};
 ghost use Rattle.defs.specs.Meaning.Question.{Question10};
 ghost use Rattle.tables.specs.Flat.{tableOf};
 ghost use Rattle.tables.proofs.Copies.{NoneBefore};
-ghost use Rattle.walk.specs.Free.{Frame};
-ghost use Rattle.best.specs.Choice.{beatsBy, betterBy, merged, limitOf, SpotFits, ranked, Ready, FullBefore, SearchedTo, NoneInTurn, OneTurn, TurnsTo, Kept};
+ghost use Rattle.best.specs.Choice.{SpotFits, ranked, Ready, NoneInTurn, OneTurn, TurnsTo, Kept};
 use defs::Figures;
 use defs::Position;
 use outline::Bounds;
+use ranks::Choice;
+use ranks::Ranked;
+use ranks::Standing;
+use ranks::Tried;
+use search::Way;
 use walk::Search;
 use walk::Spot;
-
-// A position, one more than its last column, and its top.
-pub struct Ranked {
-    pub at: Position,
-    pub end: usize,
-    pub top: u16,
-}
-
-pub enum Choice {
-    Chosen(Ranked),
-    Nowhere,
-}
-
-// The turn whose runs were put into the work buffer last, over 3 where none was, and how many they are.
-pub struct Standing {
-    pub turn: u16,
-    pub runs: usize,
-}
-
-// The most runs of the turns tried, the best position in them, and what stands in the work buffer.
-pub struct Tried {
-    pub most: usize,
-    pub best: Choice,
-    pub stands: Standing,
-}
-
-// How a turn is searched: by the walk, or going round the piece's runs.
-pub enum Way {
-    Walk,
-    Round,
-}
-
-// "w/R rounded up"
-pub fn columns_for(w: u16, r: u16) -> usize
-    requires { ⌜ 1 ≤ r ⌝ }
-    ensures { λ c. ⌜ c ≡ columnsFor w r ⌝ }
-{
-    (w as usize + (r as usize - 1)) / (r as usize)
-}
-
-// Whether q has a lesser last column than p, or the same and a lesser top.
-fn beats(q: Ranked, p: Ranked) -> bool
-    ensures { λ a. ⌜ a ≡ beatsBy q p ⌝ }
-{
-    if q.end == p.end {
-        return q.top < p.top;
-    }
-    q.end < p.end
-}
-
-// The better of two; a tie goes to the first.
-fn better(a: Choice, b: Choice) -> Choice
-    ensures { λ c. ⌜ c ≡ betterBy a b ⌝ }
-{
-    match b {
-        Choice::Nowhere => a,
-        Choice::Chosen(q) => match a {
-            Choice::Nowhere => Choice::Chosen(q),
-            Choice::Chosen(p) => {
-                if beats(q, p) {
-                    Choice::Chosen(q)
-                } else {
-                    Choice::Chosen(p)
-                }
-            }
-        },
-    }
-}
-
-fn merge(s: Tried, x: Tried) -> Tried
-    ensures { λ m. ⌜ m ≡ merged s x ⌝ }
-{
-    let a = s.best;
-    let b = x.best;
-    let c = better(a, b);
-    let d = x.stands;
-    if s.most < x.most {
-        return Tried {
-            most: x.most,
-            best: c,
-            stands: d,
-        };
-    }
-    Tried {
-        most: s.most,
-        best: c,
-        stands: d,
-    }
-}
-
-// The last column, counted from 1, of the positions that may win against the choice, in n columns.
-fn limit_of(c: Choice, n: usize) -> usize
-    ensures { λ e. ⌜ e ≡ limitOf c n ⌝ }
-{
-    match c {
-        Choice::Chosen(r) => { if r.end < n { r.end } else { n } }
-        Choice::Nowhere => n,
-    }
-}
-
-// Where the columns end from which w columns go up to `limit` at most.
-fn stop_at(limit: usize, w: usize) -> usize
-    requires { ⌜ limit ≤ 4096 ⌝ }
-    ensures { λ e. ⌜ e ≡ limit + 1 - w ⌝ }
-{
-    if limit < w { 0 } else { limit - w + 1 }
-}
-
-// Where the columns begin from which w columns go up to `lower` at least.
-fn start_at(lower: usize, w: usize) -> usize
-    ensures { λ e. ⌜ e ≡ lower - w ⌝ }
-{
-    if lower < w { 0 } else { lower - w }
-}
-
-// The least free position of a piece, where none ends before column `lower`. Going round, only positions from there on and up to the
-// last column `limit` are tried.
-fn search(
-    first: &[u16],
-    lows: &[u16],
-    highs: &[u16],
-    runs: &[u16],
-    s: Search,
-    way: Way,
-    lower: usize,
-    limit: usize,
-) -> Spot
-    requires { ⌜ Frame (now first) (now lows) (now highs) (now runs) (s .columns) (s .width) (s .runs) (s .wide) (s .tall) ⌝
-        ∗ ⌜ (s .width ≤ 16000) × (s .columns ≤ 4096) × (limit ≤ s .columns)
-        × FullBefore (now first) (now lows) (now highs) (now runs) (s .columns) (s .width) (s .runs) (s .wide) (s .tall) lower ⌝ }
-    ensures { λ a. ⌜ SearchedTo (now (first .entry)) (now (lows .entry)) (now (highs .entry)) (now (runs .entry)) (s .columns) (s .width) (s .runs) (s .wide) (s .tall) limit a ⌝ }
-{
-    match way {
-        Way::Walk => walk::walk_turn(first, lows, highs, runs, s),
-        Way::Round => {
-            let from = start_at(lower, s.wide);
-            let end = stop_at(limit, s.wide);
-            round::round_range(first, lows, highs, runs, s, from, end)
-        }
-    }
-}
 
 // The rank of the spot of turn t.
 fn rank(s: Spot, t: u16, wide: usize, tall: u16) -> Choice
@@ -207,7 +69,7 @@ fn try_turn(
             stands: Standing { turn: t, runs: k },
         };
     }
-    let wide = columns_for(e.w, g.resolution);
+    let wide = ranks::columns_for(e.w, g.resolution);
     let figures = Search {
         columns: g.columns as usize,
         width: g.width,
@@ -215,7 +77,7 @@ fn try_turn(
         wide: wide,
         tall: e.h,
     };
-    let s = search(first, lows, highs, work, figures, way, lower, limit);
+    let s = search::search(first, lows, highs, work, figures, way, lower, limit);
     Tried {
         most: k,
         best: rank(s, t, wide, e.h),
@@ -249,9 +111,9 @@ fn allowed_turn(
 {
     if checks::allows(mask, t) {
         let c = s.best;
-        let limit = limit_of(c, g.columns as usize);
+        let limit = ranks::limit_of(c, g.columns as usize);
         let x = try_turn(g, first, lows, highs, o, b, t, way, lower, limit, work);
-        return merge(s, x);
+        return ranks::merge(s, x);
     }
     s
 }

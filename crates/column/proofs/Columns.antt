@@ -15,8 +15,9 @@ use Rattle.entries.specs.Edges.{AllFit, NextAt}
 use Rattle.entries.proofs.Entries.{all-fit}
 use Rattle.join.specs.Runs.{Apart}
 use Rattle.section.specs.Slabs.{Kept, Stock, HeldAt}
-use Rattle.column.specs.Rows.{Adds, Room, Buffers, Working, ColumnOf}
-use Rattle.column.proofs.Adding.{room-adds, room-more}
+use Rattle.gaps.specs.Gaps.{Adds, Room}
+use Rattle.column.specs.Rows.{Buffers, Working, ColumnOf}
+use Rattle.gaps.proofs.Adding.{room-adds, room-more}
 
 no-runs : (l h : List ℕ) → Apart l h 0
 no-runs l h = record { full = λ i s. absurd (omega arith); apart = λ i j s t. absurd (omega arith) }

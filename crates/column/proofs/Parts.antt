@@ -19,8 +19,9 @@ use Rattle.slabs.specs.Slab.{Neat}
 use Rattle.slabs.proofs.Lines.{slab-line}
 use Rattle.entries.specs.Edges.{Fit, Loaded, AllFit, Rising}
 use Rattle.entries.proofs.Entries.{below-one}
-use Rattle.column.specs.Rows.{Paired, SlabRow, Adds, AddsPart, onLine, Heights, Parted}
-use Rattle.column.proofs.Adding.{slab-adds}
+use Rattle.gaps.specs.Gaps.{Paired, SlabRow, Adds}
+use Rattle.column.specs.Rows.{AddsPart, onLine, Heights, Parted}
+use Rattle.gaps.proofs.Adding.{slab-adds}
 use Rattle.section.proofs.Cuts.{reaches-left, reaches-right}
 
 -- what the code computes in either case

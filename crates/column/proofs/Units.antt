@@ -1,29 +1,26 @@
 -- The rows of a column, slab by slab.
 -- Assumes nothing.
-use mathlib.Core.Path.{_≡_, ap, ap₂, sym, subst, _∙_}
-use mathlib.Core.Bool.{true, _&&_}
+use mathlib.Core.Path.{_≡_, sym, subst}
+use mathlib.Core.Bool.{true}
 use mathlib.Core.Logic.{inl, inr, ⊎-elim, _↔_}
 use mathlib.Core.List.{List}
 use Prim.Native.Nat.{ℕ, zero, suc, _+_, _*_, _-_, _≤_, _<_}
 use native.Mathlib.Omega.{arith}
-use lib.Dec.{leb}
 use lib.ListN.{length}
-use borrow.Author.Tests.{lt-ltb, ltb-true, leb-true}
-use Rattle.laws.proofs.Tests.{and-left, and-right}
-use Rattle.defs.specs.Meaning.Outline.{Edge, vy, sides, edgeAt, spans, KeepsOrder}
+use Rattle.defs.specs.Meaning.Outline.{vy, sides, KeepsOrder}
 use Rattle.defs.specs.Meaning.Turn.{turned, greatest}
 use Rattle.defs.specs.Meaning.Cell.{Covered}
 use Rattle.defs.specs.Computing.Cells.{coveredb}
 use Rattle.geom.proofs.Strip.{lt-or-le}
 use Rattle.geom.proofs.Cells.{narrow, widen}
-use Rattle.geom.proofs.Cover.{in-order}
 use Rattle.geom.proofs.Computed.{cell-covered}
 use Rattle.geom.proofs.Extent.{covered-within, sides-turned}
 use Rattle.outline.specs.Vertex.{Lent, BoundsOf}
 use Rattle.outline.proofs.Vertices.{vertex-0, vertex-1, vertex-2, vertex-3}
 use Rattle.slabs.specs.Slab.{Neat, InSlab, InUnits}
 use Rattle.slabs.proofs.Cut.{slab-covered, covered-slab}
-use Rattle.column.specs.Rows.{SlabRow, Adds, Room, Buffers}
+use Rattle.gaps.specs.Gaps.{SlabRow, Adds, Room}
+use Rattle.column.specs.Rows.{Buffers}
 
 module _ {o : List ℕ} {l r f h : ℕ} (k : Lent o) (b : BoundsOf o l r f h) where
   low-turned : (t i : ℕ) → t ≤ 3 → i < sides o → vy (turned o t) i ≤ 16000

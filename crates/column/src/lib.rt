@@ -1,14 +1,14 @@
 // The runs of one column of an outline in a turn.
 
 ghost use mathlib.Core.Path.{_≡_};
-ghost use mathlib.Core.Bool.{true};
-ghost use Prim.Native.Nat.{_+_, _-_, _/_, _≤_, _<_, min, max};
+ghost use Prim.Native.Nat.{_+_, _-_, _/_, _≤_, _<_};
 ghost use lib.ListN.{length};
-ghost use Rattle.defs.specs.Meaning.Outline.{sides, KeepsOrder};
+ghost use Rattle.defs.specs.Meaning.Outline.{KeepsOrder};
 ghost use Rattle.defs.specs.Meaning.Turn.{turned};
 ghost use Rattle.outline.specs.Vertex.{Lent, BoundsOf};
 ghost use Rattle.entries.specs.Edges.{AllFit};
-ghost use Rattle.column.specs.Rows.{Between, Paired, Adds, AddsPart, Room, onLine, Heights, Parted, Working, ColumnOf};
+ghost use Rattle.gaps.specs.Gaps.{Room};
+ghost use Rattle.column.specs.Rows.{AddsPart, onLine, Heights, Parted, Working, ColumnOf};
 use outline::Bounds;
 use section::Section;
 
@@ -16,76 +16,6 @@ use section::Section;
 pub struct Filled {
     pub runs: usize,
     pub slab: Section,
-}
-
-// The least of two heights, rounded down.
-fn foot(p: u64, q: u64, d: u64) -> u64
-    requires { ⌜ 0 < d ⌝ }
-    ensures { λ r. ⌜ r ≡ min p q / d ⌝ }
-{
-    if p < q {
-        return p / d;
-    }
-    q / d
-}
-
-// The greatest of two heights, rounded up, at most 16,000.
-fn top(p: u64, q: u64, d: u64) -> u64
-    requires { ⌜ (p ≤ 256000000) × (q ≤ 256000000) × (0 < d) × (d ≤ 16000) ⌝ }
-    ensures { λ r. ⌜ r ≡ min 16000 ((max p q + (d - 1)) / d) ⌝ }
-{
-    let c = numbers::greater(p, q) + (d - 1);
-    if c < 16000 * d {
-        return c / d;
-    }
-    16000
-}
-
-// The rows between entries x and x + 1, joined to the runs, unless the two are level.
-fn gap(
-    h0: &[u64],
-    h1: &[u64],
-    w: &[u64],
-    m: usize,
-    x: usize,
-    lows: &mut [u16],
-    highs: &mut [u16],
-    n: usize,
-) -> usize
-    requires { ⌜ AllFit (now h0) (now h1) (now w) m ⌝ ∗ ⌜ x + 1 < m ⌝ ∗ ⌜ Room (now lows) (now highs) n ⌝ }
-    ensures { λ r. ⌜ Adds (Between (now (h0 .entry)) (now (h1 .entry)) (now (w .entry)) x) (now (lows .entry)) (now (highs .entry)) (now (lows .exit)) (now (highs .exit)) n r ⌝ }
-{
-    let y = x + 1;
-    if (h0[x] + h1[x]) * w[y] < (h0[y] + h1[y]) * w[x] {
-        let lo = foot(h0[x], h1[x], w[x]);
-        let hi = top(h0[y], h1[y], w[y]);
-        if lo < hi {
-            return join::join(lows, highs, n, numbers::narrow(lo), numbers::narrow(hi));
-        }
-    }
-    n
-}
-
-// The rows between the two of each pair of entries, joined to the runs.
-fn gaps(
-    h0: &[u64],
-    h1: &[u64],
-    w: &[u64],
-    m: usize,
-    lows: &mut [u16],
-    highs: &mut [u16],
-    n: usize,
-) -> usize
-    requires { ⌜ AllFit (now h0) (now h1) (now w) m ⌝ ∗ ⌜ Room (now lows) (now highs) n ⌝ }
-    ensures { λ r. ⌜ Adds (Paired (now (h0 .entry)) (now (h1 .entry)) (now (w .entry)) m) (now (lows .entry)) (now (highs .entry)) (now (lows .exit)) (now (highs .exit)) n r ⌝ }
-{
-    let mut k = n;
-    let mut low = 0;
-    while low + 1 < m {
-        k = gap(h0, h1, w, m, low, lows, highs, k);
-        low += 2;
-    }
-    k
 }
 
 // The height at distance d on the line from height p to height q, l apart.
@@ -135,14 +65,14 @@ fn portion(
     let m = s.count;
     if s.start == x0 {
         if x1 == s.end {
-            return gaps(h0, h1, w, m, lows, highs, n);
+            return gaps::gaps(h0, h1, w, m, lows, highs, n);
         }
     }
     let l = numbers::wide(s.end - s.start);
     let d0 = numbers::wide(x0 - s.start);
     let d1 = numbers::wide(x1 - s.start);
     part(h0, h1, m, l, d0, d1, g0, g1);
-    gaps(g0, g1, w, m, lows, highs, n)
+    gaps::gaps(g0, g1, w, m, lows, highs, n)
 }
 
 // The runs of the column from `from` to `to`. What is loaded of the slab s is used again where the column begins in it.

@@ -4,7 +4,7 @@ ghost use mathlib.Core.Path.{_≡_};
 ghost use mathlib.Core.Bool.{true};
 ghost use Prim.Native.Nat.{_+_, _*_, _≤_};
 ghost use lib.ListN.{length};
-ghost use Rattle.reads.specs.Put.{PieceAt};
+ghost use Rattle.cutlist.specs.Pieces.{PieceAt};
 ghost use Rattle.copies.specs.Copy.{SameVertices, StartsAt};
 use records::Numbers;
 

@@ -13,8 +13,8 @@ use Rattle.defs.specs.Computing.Words.{recordsOf, rowsOf, runsOf}
 use Rattle.laws.proofs.Lists.{listFrom-at, length-listFrom}
 use Rattle.laws.proofs.Walks.{chain-zero, chain-step}
 use Rattle.tables.specs.Flat.{rowAt, rowsFrom}
-use Rattle.form.specs.Form.{recAt, ChainOf}
-use Rattle.form.proofs.Steps.{start, step, chain-most}
+use Rattle.chains.specs.Form.{recAt, ChainOf}
+use Rattle.chains.proofs.Steps.{start, step, chain-most}
 use Rattle.decode.specs.Takes.{runAt}
 
 pub listFrom-same : {A : Type 0} (d : A) (f g : ℕ → A) (n : ℕ) → ((i : ℕ) → i < n → f i ≡ g i) →

@@ -10,10 +10,10 @@ use lib.ListN.{getD, set, length, length-set}
 use lib.Seq.{getD-set-same, getD-set-other}
 use Rattle.defs.specs.Meaning.Strip.{columnsOf, lowOf, nextOf}
 use Rattle.tables.specs.Flat.{rowAt}
-use Rattle.form.specs.Form.{recAt}
-use Rattle.form.specs.declared.Shape.{Shape}
-use Rattle.form.specs.Answers.{Sized, RunTo, NoChain}
-use Rattle.form.proofs.Walks.{OnColumn, walk-inside, column-start, column-next, column-end}
+use Rattle.chains.specs.Form.{recAt}
+use Rattle.chains.specs.declared.Shape.{Shape}
+use Rattle.chains.specs.Answers.{Sized, RunTo, NoChain}
+use Rattle.chains.proofs.Walks.{OnColumn, walk-inside, column-start, column-next, column-end}
 use Rattle.decode.specs.Takes.{runAt, Room, Copied, Taken}
 
 -- k runs of column c are taken, the next record is `at`, and its run may begin at row m

@@ -7,10 +7,10 @@ use lib.ListN.{length}
 use Rattle.defs.specs.Meaning.Strip.{lowOf, highOf}
 use Rattle.defs.specs.Computing.Cells.{Rows}
 use Rattle.tables.specs.Flat.{rowAt}
-use Rattle.form.specs.Form.{recAt, ChainOf}
-use Rattle.form.specs.Answers.{NoChain}
-use Rattle.form.specs.declared.Chain.{Chain}
-use Rattle.form.specs.declared.Chain.the-variants.{Whole, Broken}
+use Rattle.chains.specs.Form.{recAt, ChainOf}
+use Rattle.chains.specs.Answers.{NoChain}
+use Rattle.chains.specs.declared.Chain.{Chain}
+use Rattle.chains.specs.declared.Chain.the-variants.{Whole, Broken}
 
 -- the rows of record r
 abbrev pub runAt : List ℕ → ℕ → Rows

@@ -2,12 +2,12 @@
 
 ghost use Prim.Native.Nat.{_≤_, _<_};
 ghost use lib.ListN.{length};
-ghost use Rattle.form.specs.Answers.{Sized};
+ghost use Rattle.chains.specs.Answers.{Sized};
 ghost use Rattle.decode.specs.Takes.{Room, Takes};
 ghost use Rattle.decode.specs.Decodes.{Decodes};
-use form::Chain;
-use form::Mark;
-use form::Shape;
+use chains::Chain;
+use chains::Mark;
+use chains::Shape;
 use form::Size;
 
 // The number of runs.
@@ -22,20 +22,20 @@ fn take_runs(s: &[u16], g: Shape, c: usize, t: usize, lows: &mut [u16], highs: &
         ∗ ⌜ Room (now s) (g .records) c t ⌝ ∗ ⌜ (g .records ≤ length (now lows)) × (g .records ≤ length (now highs)) ⌝ }
     ensures { λ a. ⌜ Takes (now (s .entry)) (now (lows .entry)) (now (highs .entry)) (now (lows .exit)) (now (highs .exit)) (g .records) c t a ⌝ }
 {
-    let mut at = form::word(s, limits::LEADING_WORDS + c);
+    let mut at = chains::word(s, limits::LEADING_WORDS + c);
     let mut m: usize = 0;
     let mut k: usize = 0;
     while 0 < at {
         if g.records <= t + k {
             return Chain::Broken;
         }
-        match form::check_run(s, g, c, m, at) {
+        match chains::check_run(s, g, c, m, at) {
             Mark::High(h) => {
-                lows[t + k] = form::word_of(s, g, at, limits::LOW) as u16;
+                lows[t + k] = chains::word_of(s, g, at, limits::LOW) as u16;
                 highs[t + k] = h as u16;
                 m = h + 1;
                 k += 1;
-                at = form::word_of(s, g, at, limits::NEXT);
+                at = chains::word_of(s, g, at, limits::NEXT);
             }
             Mark::Wrong => {
                 return Chain::Broken;
@@ -66,7 +66,7 @@ fn take_all(s: &[u16], g: Shape, first: &mut [u16], lows: &mut [u16], highs: &mu
             }
         }
     }
-    match form::free_chain(s, g) {
+    match chains::free_chain(s, g) {
         Chain::Whole(k) => {
             if t + k == g.records {
                 Decoded::Runs(t)

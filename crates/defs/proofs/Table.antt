@@ -356,8 +356,8 @@ lay-numbers : layAnswer (sheetBytes 10 2 10 three) 38 11 30 ∷ layAnswer (sheet
 unfolding runs three
 lay-numbers = refl
 
--- A refused piece and a refused job in text: W 3 takes no S; the tie is the second piece.
-refused-text : layText (sheetBytes 3 2 10 (inList T ∷ inList S ∷ [])) ≡ ascii "strip 3 2 10\n1 placed 0 0 0\n2 refused 13\nused 2 placed 1\n"
+-- A refused piece and a refused job in text: W 3 takes no S, and the job goes on; the tie is the second piece.
+refused-text : layText (sheetBytes 3 2 10 (inList T ∷ inList S ∷ inList T ∷ [])) ≡ ascii "strip 3 2 10\n1 placed 0 0 0\n2 refused 13\n3 placed 0 2 0\nused 4 placed 2\n"
 unfolding runs
 refused-text = refl
 

@@ -9,9 +9,9 @@ use lib.Seq.{sets}
 use Rattle.defs.specs.Computing.Test.{listFrom}
 use Rattle.defs.specs.Computing.Words.{columnWords, runWords}
 use Rattle.tables.specs.Flat.{rowsIn, tableOf, Flat}
-use Rattle.encode.specs.Stored.{RunsFit}
-use Rattle.encode.proofs.Storing.{Storing, storing-start, storing-as, storing-many, storing-end}
-use Rattle.encode.proofs.Words.{column-words, runs-start, runs-next, runs-end}
+use Rattle.freerecords.specs.Stored.{RunsFit}
+use Rattle.words.proofs.Storing.{Storing, storing-start, storing-as, storing-many, storing-end}
+use Rattle.freerecords.proofs.Words.{column-words, runs-start, runs-next, runs-end}
 use Rattle.tables.proofs.Flats.{firsts-most}
 
 -- the columns before column k are done

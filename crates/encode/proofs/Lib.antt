@@ -1,4 +1,2 @@
-pub mod Storing
-pub mod Words
 pub mod Columns
 pub mod Strips

@@ -12,9 +12,9 @@ use Rattle.laws.proofs.Questions.{length-decides}
 use Rattle.tables.specs.Flat.{tableOf, Flat}
 use Rattle.tables.proofs.WrittenWords.{length-written}
 use Rattle.encode.specs.Room.{Room}
-use Rattle.encode.specs.Stored.{link, firstRecords}
-use Rattle.encode.proofs.Storing.{storing-start, storing-four, storing-many, sets-whole}
-use Rattle.encode.proofs.Words.{firsts-length, runs-length, heads-are}
+use Rattle.freerecords.specs.Stored.{link, firstRecords}
+use Rattle.words.proofs.Storing.{storing-start, storing-four, storing-many, sets-whole}
+use Rattle.freerecords.proofs.Words.{firsts-length, runs-length, heads-are}
 use Rattle.tables.proofs.Flats.{table-length, count-is}
 
 -- the sizes of a strip with room: N columns, t runs, Q records

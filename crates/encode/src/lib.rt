@@ -1,18 +1,14 @@
 // A table of runs, written into a strip: records 1, 2, 3 by column then low, and the free records after them in rising order.
 
 ghost use mathlib.Core.Path.{_≡_};
-ghost use mathlib.Core.List.{[], _∷_};
 ghost use Prim.Native.Nat.{_+_, _*_, _-_, _≤_, _<_};
 ghost use lib.ListN.{length, getD};
 ghost use lib.Seq.{sets};
-ghost use Rattle.defs.specs.Computing.Words.{recordsOf, columnWords, runWords, freeWords, written};
+ghost use Rattle.defs.specs.Computing.Words.{recordsOf, columnWords, runWords, written};
 ghost use Rattle.tables.specs.Flat.{Flat, rowsFrom, tableOf};
 ghost use Rattle.encode.specs.Room.{Room};
-ghost use Rattle.encode.specs.Stored.{link, firstRecords, RunsFit, FreeFit, partsOf};
+ghost use Rattle.freerecords.specs.Stored.{link, firstRecords, RunsFit};
 use defs::Figures;
-
-// A word has so many values.
-const WORD: u64 = 65536;
 
 // The record of run i in a chain that ends before run `end`: record i + 1, or 0 where the chain has no run i.
 fn record_of(i: u16, end: u16) -> u16
@@ -22,17 +18,6 @@ fn record_of(i: u16, end: u16) -> u16
         return i + 1;
     }
     0
-}
-
-// Four words from word `at` on: a record's column, low, high and next, or the figures at the start.
-pub fn put_four(strip: &mut [u16], at: usize, a: u16, b: u16, c: u16, d: u16)
-    requires { ⌜ at + 4 ≤ length (now strip) ⌝ }
-    ensures { λ _. ⌜ now (strip .exit) ≡ sets (now (strip .entry)) at (a ∷ b ∷ c ∷ d ∷ []) ⌝ }
-{
-    strip[at] = a;
-    strip[at + 1] = b;
-    strip[at + 2] = c;
-    strip[at + 3] = d;
 }
 
 // The first record of each of n columns.
@@ -69,11 +54,11 @@ fn put_column(
     let mut i = from as usize;
     let mut p = at;
     while i < last {
-        put_four(strip, p, k, lows[i], highs[i], (i + 2) as u16);
+        freerecords::put_four(strip, p, k, lows[i], highs[i], (i + 2) as u16);
         p += limits::RECORD_WORDS;
         i += 1;
     }
-    put_four(strip, p, k, lows[i], highs[i], 0);
+    freerecords::put_four(strip, p, k, lows[i], highs[i], 0);
 }
 
 // The records of the runs of n columns.
@@ -94,40 +79,6 @@ fn put_records(strip: &mut [u16], first: &[u16], lows: &[u16], highs: &[u16], n:
     }
 }
 
-// The four words that v is made of, lowest first, from word `at` on. The compiler makes one store of them.
-fn put_parts(strip: &mut [u16], at: usize, v: u64)
-    requires { ⌜ at + 4 ≤ length (now strip) ⌝ }
-    ensures { λ _. ⌜ now (strip .exit) ≡ sets (now (strip .entry)) at (partsOf v) ⌝ }
-{
-    let w = v / WORD;
-    let x = w / WORD;
-    strip[at] = (v % WORD) as u16;
-    strip[at + 1] = (w % WORD) as u16;
-    strip[at + 2] = (x % WORD) as u16;
-    strip[at + 3] = (x / WORD) as u16;
-}
-
-// The free records t + 1 to q of a strip of n columns, from word `at` on. The last is put after the loop, as in put_column, and the
-// others as one number each: the compiler then stores several records at once.
-fn put_free(strip: &mut [u16], at: usize, n: u16, t: usize, q: usize)
-    requires { ⌜ FreeFit t q at (length (now strip)) ⌝ }
-    ensures { λ _. ⌜ now (strip .exit) ≡ sets (now (strip .entry)) at (freeWords n (t + 1) (q - t)) ⌝ }
-{
-    if t == q {
-        return;
-    }
-    let last = q - 1;
-    let mut i = t;
-    let mut p = at;
-    while i < last {
-        let next = (i + 2) as u64;
-        put_parts(strip, p, n as u64 + WORD * WORD * WORD * next);
-        p += limits::RECORD_WORDS;
-        i += 1;
-    }
-    put_four(strip, p, n, 0, 0, 0);
-}
-
 // The strip of these figures that holds the t runs of the table.
 pub fn encode(strip: &mut [u16], g: Figures, first: &[u16], lows: &[u16], highs: &[u16], t: usize)
     requires { ⌜ Flat (now first) (now lows) (now highs) (g .columns) t ⌝ ∗ ⌜ Room (g .columns) t (length (now strip)) ⌝ }
@@ -137,9 +88,9 @@ pub fn encode(strip: &mut [u16], g: Figures, first: &[u16], lows: &[u16], highs:
     let n = g.columns as usize;
     let q = limits::records_of(g.columns, strip.len());
     let free = record_of(t as u16, q as u16);
-    put_four(strip, 0, g.width, g.resolution, g.columns, free);
+    freerecords::put_four(strip, 0, g.width, g.resolution, g.columns, free);
     put_firsts(strip, first, n);
     put_records(strip, first, lows, highs, n);
     let at = limits::LEADING_WORDS + n + limits::RECORD_WORDS * t;
-    put_free(strip, at, g.columns, t, q);
+    freerecords::put_free(strip, at, g.columns, t, q);
 }

@@ -14,9 +14,6 @@ use defs::Entry;
 use defs::Fate;
 use defs::Placing;
 
-// Words of an entry.
-pub const ENTRY_WORDS: usize = 4;
-
 // The ordinal of the next piece, the pieces placed and the columns used so far, whether the second table is current, and before which
 // column no free position of a copy of the last piece ends.
 pub struct Tally {
@@ -41,11 +38,11 @@ pub fn put_entry(e: Entry, out: &mut [u16])
     requires { ⌜ (1 ≤ e .ordinal) × (4 * e .ordinal ≤ length (now out)) ⌝ }
     ensures { λ _. ⌜ now (out .exit) ≡ sets (now (out .entry)) (4 * (e .ordinal - 1)) (fateWords (e .fate)) ⌝ }
 {
-    let at = ENTRY_WORDS * (e.ordinal as usize - 1);
+    let at = numbers::ENTRY_WORDS * (e.ordinal as usize - 1);
     let f = e.fate;
     match f {
-        Fate::Placed(p) => encode::put_four(out, at, 0, p.turn, p.column, p.height),
-        Fate::Refused(n) => encode::put_four(out, at, n, 0, 0, 0),
+        Fate::Placed(p) => freerecords::put_four(out, at, 0, p.turn, p.column, p.height),
+        Fate::Refused(n) => freerecords::put_four(out, at, n, 0, 0, 0),
     }
 }
 
@@ -58,7 +55,7 @@ pub fn end_of(o: &[u16], r: u16, a: Placing) -> usize
         Placing::Placed(p) => {
             let b = outline::bounds_of(o);
             let e = outline::extent_of(o, b, p.turn);
-            p.column as usize + best::columns_for(e.w, r)
+            p.column as usize + ranks::columns_for(e.w, r)
         }
         Placing::Refused(f) => 0,
     }

@@ -9,8 +9,8 @@ use borrow.Author.Count.{below-more}
 use Rattle.defs.specs.Meaning.Strip.{columnsOf, firstOf, columnOf, nextOf, Chained, here, further, Ends, zero-ends, goes-on}
 use Rattle.defs.specs.Meaning.Strip.{InColumn, IsFree, InOneChain, WellFormed}
 use Rattle.defs.specs.Meaning.Question.{Question5}
-use Rattle.form.specs.Form.{recAt, Within, ChainOf, Counted, Place, Formed}
-use Rattle.form.proofs.Steps.{start, step, chain-column, goes-on-at}
+use Rattle.chains.specs.Form.{recAt, Within, ChainOf, Counted, Place, Formed}
+use Rattle.chains.proofs.Steps.{start, step, chain-column, goes-on-at}
 
 -- chain c comes to record x in its first k
 record Reaches (s : List ℕ) (c k x : ℕ) : Type 0 where

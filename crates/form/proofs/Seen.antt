@@ -8,8 +8,8 @@ use native.Mathlib.Omega.{arith}
 use native.Mathlib.Decide.{decLt}
 use Rattle.defs.specs.Meaning.Strip.{columnsOf, columnOf}
 use Rattle.laws.proofs.Pigeonhole.{pigeonhole}
-use Rattle.form.specs.Form.{recAt, ChainOf, Place}
-use Rattle.form.proofs.Steps.{same-step, chain-column, chain-same}
+use Rattle.chains.specs.Form.{recAt, ChainOf, Place}
+use Rattle.chains.proofs.Steps.{same-step, chain-column, chain-same}
 use Rattle.form.proofs.Joined.{joined, joined-left, joined-right, joined-each, joined-differ, Among, onto, covers}
 
 -- the chains before c have `total` records: at 0 .. at (total - 1)

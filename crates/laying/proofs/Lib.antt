@@ -1,5 +1,1 @@
-pub mod Currents
-pub mod Pieces
-pub mod Copied
-pub mod Going
 pub mod Tops

@@ -19,6 +19,12 @@ pub const MOST_MASK: u16 = 15;
 
 pub const MOST_RESOLUTION: u16 = 400;
 
+// Words of the longest cut list: the count, and 200 pieces of a count, a mask and 64 vertices.
+pub const LIST_WORDS: usize = 26001;
+
+// Words of an entry in the output of lay.
+pub const ENTRY_WORDS: usize = 4;
+
 // Runs of one column, with room for one more: runs that do not touch, in at most MOST_COORDINATE rows.
 pub const RUN_ROOM: usize = 8001;
 

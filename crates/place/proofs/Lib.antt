@@ -1,4 +1,1 @@
-pub mod Zeros
-pub mod Entries
-pub mod Answers
 pub mod Strip

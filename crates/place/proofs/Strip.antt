@@ -24,7 +24,8 @@ use Rattle.tables.proofs.Strips.{runs-apart}
 use Rattle.tables.proofs.Written.{Writable, written-left}
 use Rattle.decode.specs.Decodes.{Holds-runs}
 use Rattle.encode.specs.Room.{Room}
-use Rattle.place.specs.Table.{Tabled, Next, NextIf, PlacedOn, Answered}
+use Rattle.position.specs.Table.{Tabled, Next, NextIf, PlacedOn}
+use Rattle.place.specs.Strip.{Answered}
 
 -- a strip that is not well formed
 pub not-formed : {s o : List ℕ} {mask words : ℕ} {a : Placing} → wellFormedb s ≡ false → a ≡ Refused (refusal 5 0) →

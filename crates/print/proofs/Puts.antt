@@ -12,7 +12,7 @@ use lib.Dec.{ltb}
 use borrow.Author.Tests.{lt-ltb, le-ltb}
 use Rattle.defs.specs.Computing.Text.{digits, decimal, spaced}
 use Rattle.laws.proofs.Stores.{sets-append}
-use Rattle.reads.specs.Put.{Put}
+use Rattle.words.specs.Put.{Put}
 use Rattle.print.specs.Spelled.{Spelled}
 
 -- digits

@@ -1,14 +1,18 @@
 // Bytes and numbers put into a buffer.
 
 ghost use mathlib.Core.Path.{_≡_};
-ghost use Prim.Native.Nat.{_+_, _*_, _%_, _≤_};
+ghost use Prim.Native.Nat.{_+_, _*_, _%_, _≤_, _<_};
 ghost use lib.ListN.{length};
 ghost use Rattle.defs.specs.Computing.Text.{decimal, spaced};
-ghost use Rattle.reads.specs.Put.{Put};
+ghost use Rattle.words.specs.Put.{Put};
 ghost use Rattle.print.specs.Spelled.{Spelled};
+use defs::Refusal;
 
 // The bytes of a number, at most.
 const DIGITS: usize = 5;
+
+// The bytes of a line `job refused` or `strip`, or of a message about a text, at most.
+pub const MESSAGE_ROOM: usize = 128;
 
 // The bytes, from place `at` of the output. Answers the place after them.
 pub fn put(out: &mut [u8], at: usize, bytes: &[u8]) -> usize
@@ -68,4 +72,29 @@ pub fn put_spaced(out: &mut [u8], at: usize, numbers: &[u16]) -> usize
         i += 1;
     }
     to
+}
+
+// A word, and each number after a space.
+pub fn put_words(out: &mut [u8], at: usize, word: &[u8], numbers: &[u16]) -> usize
+    requires { ⌜ at + length (now word) + 6 * length (now numbers) ≤ length (now out) ⌝ }
+    ensures { λ r. ⌜ r ≤ at + length (now (word .entry)) + 6 * length (now (numbers .entry)) ⌝ }
+{
+    let a = put(out, at, word);
+    put_spaced(out, a, numbers)
+}
+
+pub fn end_line(out: &mut [u8], at: usize) -> usize
+    requires { ⌜ at < length (now out) ⌝ }
+    ensures { λ r. ⌜ r ≤ at + 1 ⌝ }
+{
+    out[at] = b'\n';
+    at + 1
+}
+
+// `job refused`, the number and the ordinal.
+pub fn put_refusal(out: &mut [u8], r: Refusal) -> usize
+    requires { ⌜ 128 ≤ length (now out) ⌝ }
+    ensures { λ a. ⌜ a ≤ 23 ⌝ }
+{
+    put_words(out, 0, b"job refused", &[r.number, r.ordinal])
 }

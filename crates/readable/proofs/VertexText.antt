@@ -5,7 +5,7 @@ use Prim.Native.Nat.{ℕ, _+_, _≤_}
 use native.Mathlib.Omega.{arith}
 use lib.ListN.{length, set, length-append, length-set}
 use Rattle.defs.specs.Computing.Text.{decimal}
-use Rattle.reads.specs.Put.{Put}
+use Rattle.words.specs.Put.{Put}
 use Rattle.print.proofs.Puts.{then, one-then, put-long, decimal-few}
 use Rattle.readable.specs.Words.{vertexText}
 

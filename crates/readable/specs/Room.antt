@@ -1,10 +1,6 @@
 -- That what is put has room.
 -- Assumes nothing.
 use Prim.Native.Nat.{ℕ, _+_, _*_, _≤_, _<_}
-use Rattle.readable.specs.declared.Outline.{Outline}
-use Rattle.readable.specs.declared.Outline.the-variants.{Vertices, Bad}
-use Rattle.readable.specs.declared.Made.{Made}
-use Rattle.readable.specs.declared.Made.the-variants.{Sheet, Message}
 
 -- a list of so many words has the piece of n vertices at place a, and so many bytes have room for its line from place `at`
 pub record PieceRoom (words a n bytes at : ℕ) : Type 0 where
@@ -14,11 +10,3 @@ pub record PieceRoom (words a n bytes at : ℕ) : Type 0 where
 -- n is 0 or such a number
 pub record RoomOf (words a n bytes at : ℕ) : Type 0 where
   pub fits : 0 < n → PieceRoom words a n bytes at
-
-abbrev pub Within : Outline → Type 0
-Within (Vertices n) = n ≤ 64
-Within (Bad f) = Unit {0}
-
-abbrev pub Fits : Made → ℕ → Type 0
-Fits (Sheet n) bytes = n ≤ bytes
-Fits (Message n) bytes = n ≤ bytes

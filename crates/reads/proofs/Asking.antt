@@ -8,9 +8,9 @@ use Rattle.defs.specs.Meaning.Limits.{mostPieces}
 use Rattle.defs.specs.Meaning.Sheet.{firstPiece}
 use Rattle.defs.specs.Computing.Sheets.{pieceRecords, firstNo, sheetPieceNo}
 use Rattle.records.proofs.Refusals.{no-end, no-on, no-here}
-use Rattle.reads.specs.Put.{ChainEnds}
+use Rattle.cutlist.specs.Pieces.{ChainEnds}
 use Rattle.reads.specs.Steps.{NoneRefused, FirstRefused}
-use Rattle.reads.proofs.Along.{Along, nextPiece, rest, along-start, along-end, along-left, along-rest, along-next}
+use Rattle.cutlist.proofs.Along.{Along, nextPiece, rest, along-start, along-end, along-left, along-rest, along-next}
 
 -- the k - 1 pieces before passed
 pub record Asking (b : List ℕ) (v at left k : ℕ) : Type 0 where

@@ -23,7 +23,7 @@ use Rattle.laws.proofs.Walks.{chain-few}
 use Rattle.sheets.proofs.Asking.{asked, not-zero, first-none}
 use Rattle.sheets.proofs.Answers.{said, passed, figuresOf, read-grants}
 use Rattle.records.specs.Records.{PiecesIll}
-use Rattle.reads.specs.Put.{VertexEnds, AllEnd, end-none, end-more, ChainEnds, PiecesRoom}
+use Rattle.cutlist.specs.Pieces.{VertexEnds, AllEnd, end-none, end-more, ChainEnds, PiecesRoom}
 use Rattle.reads.specs.Steps.{FirstRefused, Begun, Counted, Passed, fourthOf, JobRefused}
 use Rattle.reads.specs.declared.Strip.{Strip}
 

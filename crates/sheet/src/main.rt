@@ -3,7 +3,7 @@
 use libc::STDERR_FILENO;
 use libc::STDIN_FILENO;
 use libc::STDOUT_FILENO;
-use readable::Made;
+use typed::Made;
 
 // One byte more than a text may have, so that longer input is noticed.
 const INPUT: usize = 262145;
@@ -12,7 +12,7 @@ const OUTPUT: usize = 65536;
 
 fn run(input: &mut [u8], output: &mut [u8]) {
     let n = io::read_full(STDIN_FILENO, input);
-    match readable::sheet_of(&input[..n], output) {
+    match typed::sheet_of(&input[..n], output) {
         Made::Sheet(r) => {
             io::write_all(STDOUT_FILENO, &output[..r]);
         }

@@ -1,64 +1,36 @@
 -- From lay's answer to the text, and which strip serves for it.
 -- Assumes nothing.
 use mathlib.Core.Path.{_≡_, refl, sym, ap, _∙_}
-use mathlib.Core.Bool.{Bool, true, false}
+use mathlib.Core.Bool.{Bool}
 use mathlib.Core.Option.{none, some}
 use mathlib.Core.List.{List, [], _∷_, _++_}
-use Prim.Native.Nat.{ℕ, _+_, _*_, _≤_, _<_}
+use Prim.Native.Nat.{ℕ, _+_, _*_, _≤_}
 use native.Mathlib.Omega.{arith}
 use lib.ListN.{length, take, drop, length-append, length-map}
 use lib.Seq.{sets-eq, take-at, length-take-le}
-use borrow.Author.Tests.{lt-leb}
 use Rattle.defs.specs.declared.Refusal.{Refusal}
 use Rattle.defs.specs.declared.Totals.{Totals}
 use Rattle.defs.specs.declared.Figures.{Figures}
 use Rattle.defs.specs.declared.Laying.{Laying}
 use Rattle.defs.specs.declared.Laying.the-variants.{Laid, Refused as NotLaid}
-use Rattle.defs.specs.Meaning.Limits.{mostPieces, mostColumns}
+use Rattle.defs.specs.Meaning.Limits.{mostPieces}
 use Rattle.defs.specs.Meaning.Sheet.{sheetW, sheetR, sheetN}
 use Rattle.defs.specs.Computing.Ascii.{ascii}
 use Rattle.defs.specs.Computing.Words.{limitsb, lengthb}
-use Rattle.defs.specs.Computing.Calls.{refusal}
 use Rattle.defs.specs.Computing.Sheets.{q1b, q2b, q6b, pieceOf, pieceRecords, sheetPieces, sheetNo}
 use Rattle.defs.specs.Computing.Lay.{entriesWords, layEntries, layAnswer, layOutput, LayStep}
 use Rattle.defs.specs.Computing.Text.{spaced, line, entryLines, programStrip, programWork, layText}
-use Rattle.laws.proofs.Questions.{question-2, question-3}
+use Rattle.laws.proofs.Questions.{question-2}
 use Rattle.sheets.proofs.Asking.{asked, some-none}
 use Rattle.sheets.proofs.Passing.{few-read}
 use Rattle.sheets.proofs.Answers.{said, figuresOf, not-refused}
-use Rattle.reads.specs.Put.{Put}
-use Rattle.text.specs.Lines.{fourLines, totalsLine, laidLines, LaidFits}
-use Rattle.text.specs.Lent.{StripFor, exact, early, StripWords, Answered, Passes, Shows}
+use Rattle.words.specs.Put.{Put}
+use Rattle.layout.specs.Lines.{fourLines, totalsLine, laidLines, LaidFits}
+use Rattle.lent.specs.Strips.{StripFor, exact, early, StripWords}
+use Rattle.text.specs.Lent.{Answered, Passes, Shows}
 use Rattle.print.proofs.Puts.{put-long, spaced-few}
-use Rattle.text.proofs.Lines.{strip-few, lines-few}
-use Rattle.text.proofs.Entries.{job-words, job-lines}
-
--- the strip
-
-pub strip-early-1 : (b : List ℕ) → length b < 16 → StripWords b 0
-unfolding sheetNo q1b
-strip-early-1 b l =
-    record { few = omega arith; serves = early (refusal 1 0) (λ fourth. rw (lt-leb 16 (length b) l)) }
-
--- a sheet with too many columns is refused by 1, 2 or 3
-too-many : (b : List ℕ) → mostColumns < sheetN b → limitsb (sheetW b) (sheetR b) (sheetN b) ≡ false
-too-many b l = go (limitsb (sheetW b) (sheetR b) (sheetN b)) refl
-  where
-    go : (t : Bool) → limitsb (sheetW b) (sheetR b) (sheetN b) ≡ t → t ≡ false
-    go true e = let h = question-3 (sheetW b) (sheetR b) (sheetN b) .0 e in absurd (omega (arith, h .columns .at-most))
-    go false e = refl
-
-pub strip-early-3 : (b : List ℕ) → mostColumns < sheetN b → StripWords b 0
-unfolding sheetNo
-strip-early-3 b l = record { few = omega arith; serves = go (q1b b) (q2b b) refl refl }
-  where
-    go : (t u : Bool) → q1b b ≡ t → q2b b ≡ u → StripFor b 0
-    go false u e f = early (refusal 1 0) (λ fourth. rw e)
-    go true false e f = early (refusal 2 0) (λ fourth. rw (e, f))
-    go true true e f = early (refusal 3 0) (λ fourth. rw (e, f, too-many b l))
-
-pub strip-exact : (b : List ℕ) {n : ℕ} → sheetN b ≤ mostColumns → n ≡ programStrip b → StripWords b n
-strip-exact b l e = record { few = omega (arith, e); serves = exact e }
+use Rattle.layout.proofs.Lines.{strip-few, lines-few}
+use Rattle.layout.proofs.Entries.{job-words, job-lines}
 
 -- the first n words of the greatest strip
 module _ (s : List ℕ) {b : List ℕ} {n : ℕ} (w : StripWords b n) (l : length s ≡ 20100) where

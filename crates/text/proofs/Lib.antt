@@ -1,4 +1,2 @@
-pub mod Lines
-pub mod Entries
 pub mod Answers
 pub mod Longer

@@ -1,29 +1,18 @@
 -- What program `lay` lends, and what it has before it prints.
 -- Assumes nothing.
 use mathlib.Core.Path.{_≡_}
-use mathlib.Core.Bool.{Bool, true}
-use mathlib.Core.Option.{some}
+use mathlib.Core.Bool.{true}
 use mathlib.Core.List.{List, _++_}
 use Prim.Native.Nat.{ℕ, _+_, _*_, _≤_}
 use lib.ListN.{length, take}
-use Rattle.defs.specs.declared.Refusal.{Refusal}
 use Rattle.defs.specs.declared.Totals.{Totals}
 use Rattle.defs.specs.declared.Laying.{Laying}
 use Rattle.defs.specs.declared.Laying.the-variants.{Laid}
-use Rattle.defs.specs.Meaning.Limits.{mostPieces, mostColumns, leadingWords, recordWords}
+use Rattle.defs.specs.Meaning.Limits.{mostPieces}
 use Rattle.defs.specs.Meaning.Sheet.{sheetV, sheetP}
-use Rattle.defs.specs.Computing.Sheets.{q6b, sheetNo}
+use Rattle.defs.specs.Computing.Sheets.{q6b}
 use Rattle.defs.specs.Computing.Lay.{entriesWords, layEntries, layAnswer}
-use Rattle.defs.specs.Computing.Text.{programRecords, programStrip, programWork, layText}
-
--- a strip of n words serves: it has the words that it is to have, or the sheet is refused whatever the answer to 4
-pub data StripFor (b : List ℕ) (n : ℕ) : Type 0 where
-  exact : n ≡ programStrip b → StripFor b n
-  early : (r : Refusal) → ((fourth : Bool) → sheetNo b fourth ≡ some r) → StripFor b n
-
-pub record StripWords (b : List ℕ) (n : ℕ) : Type 0 where
-  pub few : n ≤ leadingWords + mostColumns + recordWords * programRecords
-  pub serves : StripFor b n
+use Rattle.defs.specs.Computing.Text.{programStrip, programWork, layText}
 
 -- lay's answer, and its output where the job is laid
 pub record Answered (b ws : List ℕ) (a : Laying) : Type 0 where

@@ -3,25 +3,9 @@
 ghost use Prim.Native.Nat.{_≤_, _<_, max};
 ghost use lib.ListN.{length};
 ghost use Rattle.tokens.specs.Few.{Few};
+use fault::Fault;
 
-// What is wrong with a text.
-pub enum Fault {
-    Word,
-    Number,
-    Large,
-    Decimals,
-    Eighth,
-    Comma,
-    Alone,
-    Figures,
-    Twice,
-    First,
-    Vertices,
-    Pieces,
-    Lines,
-    NoStrip,
-    Long,
-}
+pub mod fault;
 
 // A number that has grown to this is too large whatever digits follow.
 const ENOUGH: u64 = 100000;
@@ -166,10 +150,10 @@ pub enum Number {
 fn whole(line: &[u8], at: usize) -> Number {
     let d = digits(line, at);
     if d.next <= at {
-        return Number::Bad(Fault::Number);
+        return Number::Bad(fault::NUMBER);
     }
     if MOST_NUMBER < d.value {
-        return Number::Bad(Fault::Large);
+        return Number::Bad(fault::LARGE);
     }
     Number::Is(d.value as u16, d.next)
 }
@@ -211,10 +195,10 @@ fn thousandths(line: &[u8], at: usize) -> Decimals
 // A number of thousandths of a millimetre, in units.
 fn units(n: u64, next: usize) -> Number {
     if n % UNIT != 0 {
-        return Number::Bad(Fault::Eighth);
+        return Number::Bad(fault::EIGHTH);
     }
     if MOST_NUMBER < n / UNIT {
-        return Number::Bad(Fault::Large);
+        return Number::Bad(fault::LARGE);
     }
     Number::Is((n / UNIT) as u16, next)
 }
@@ -223,23 +207,28 @@ fn units(n: u64, next: usize) -> Number {
 fn millimetres(line: &[u8], at: usize) -> Number {
     let d = digits(line, at);
     if d.next <= at {
-        return Number::Bad(Fault::Number);
+        return Number::Bad(fault::NUMBER);
     }
     match thousandths(line, d.next) {
         Decimals::Are(n, next) => units(1000 * d.value + n, next),
-        Decimals::Bad => Number::Bad(Fault::Decimals),
+        Decimals::Bad => Number::Bad(fault::DECIMALS),
     }
 }
 
 // The number at place `at`.
-pub fn number_at(line: &[u8], at: usize, mm: bool) -> Number {
+fn number_at(line: &[u8], at: usize, mm: bool) -> Number {
     if mm {
         return millimetres(line, at);
     }
     whole(line, at)
 }
 
-// The two numbers of a vertex, and the place after it.
+// The number that follows from place `at` on.
+pub fn next_number(line: &[u8], at: usize, mm: bool) -> Number {
+    number_at(line, skip_blanks(line, at), mm)
+}
+
+// The two numbers of a vertex, and the first place after it that has no blank.
 pub enum Vertex {
     Is(u16, u16, usize),
     Bad(Fault),
@@ -248,13 +237,13 @@ pub enum Vertex {
 // The comma at place `at`, and y after it.
 fn after_x(line: &[u8], at: usize, mm: bool, x: u16) -> Vertex {
     if line.len() <= at {
-        return Vertex::Bad(Fault::Comma);
+        return Vertex::Bad(fault::COMMA);
     }
     if line[at] != b',' {
-        return Vertex::Bad(Fault::Comma);
+        return Vertex::Bad(fault::COMMA);
     }
     match number_at(line, at + 1, mm) {
-        Number::Is(y, next) => Vertex::Is(x, y, next),
+        Number::Is(y, next) => Vertex::Is(x, y, skip_blanks(line, next)),
         Number::Bad(f) => Vertex::Bad(f),
     }
 }

@@ -1,5 +1,1 @@
-pub mod Puts
-pub mod Tails
-pub mod Fronts
-pub mod Asking
 pub mod Outputs

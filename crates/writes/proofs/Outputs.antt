@@ -22,9 +22,11 @@ use Rattle.sheets.proofs.Asking.{first-none}
 use Rattle.sheets.proofs.ListBack.{complete}
 use Rattle.sheets.proofs.SheetBack.{sheet-long}
 use Rattle.sheets.proofs.Answers.{said, passed, write-grants}
-use Rattle.writes.specs.Fits.{Complete, no-piece, a-piece, SheetFits}
-use Rattle.writes.specs.Steps.{FirstRefused, firstRefusal, Begun, Passed}
-use Rattle.writes.proofs.Tails.{tails-long}
+use Rattle.recordbytes.specs.Fits.{Complete, no-piece, a-piece}
+use Rattle.sheetbytes.specs.Sheets.{SheetFits}
+use Rattle.lists.specs.Asked.{FirstRefused, firstRefusal}
+use Rattle.writes.specs.Steps.{Begun, Passed}
+use Rattle.recordbytes.proofs.Tails.{tails-long}
 
 -- 6
 

@@ -4,7 +4,7 @@ use mathlib.Core.Bool.{false≢true}
 use native.Mathlib.Omega.{arith}
 use borrow.Author.Tests.{ltb-true}
 use borrow.Author.Needs.{needs}
-use Rattle.column.proofs.Adding.{lower-sum, upper-sum, lower-cross, upper-cross}
+use Rattle.gaps.proofs.Adding.{lower-sum, upper-sum, lower-cross, upper-cross}
 use Rattle.asked.proofs.apart.Statement.{statement}
 use Rattle.asked.proofs.apart.Tie as tie
 

@@ -1,6 +1,7 @@
 -- An allowed turn is tried and merged; another is passed over. Assumes nothing.
 use mathlib.Core.Path.{sym, _∙_}
-use Rattle.best.proofs.Choices.{limit-few, turn-more, turn-skipped}
+use Rattle.ranks.proofs.Ranks.{limit-few}
+use Rattle.best.proofs.Choices.{turn-more, turn-skipped}
 use Rattle.best.proofs.Turns.{keeps-turn, none-in-turn}
 use borrow.Author.Needs.{needs}
 use Rattle.best.proofs.allowed_turn.Statement.{statement}

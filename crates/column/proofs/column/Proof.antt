@@ -7,7 +7,8 @@ use Prim.Native.Nat.{_≤_, _-_}
 use lib.ListN.{length}
 use Rattle.defs.specs.Meaning.Turn.{turned}
 use Rattle.slabs.specs.Slab.{InUnits}
-use Rattle.column.specs.Rows.{Adds, Working}
+use Rattle.gaps.specs.Gaps.{Adds}
+use Rattle.column.specs.Rows.{Working}
 use Rattle.column.proofs.Parts.{part-neat}
 use Rattle.column.proofs.Units.{row-limit, units-none, units-more, units-end, room-units}
 use Rattle.column.proofs.Columns.{column-of, stock-of, working-on, held-fit}

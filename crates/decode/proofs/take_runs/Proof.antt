@@ -2,7 +2,7 @@
 use Prim.Native.Nat.{_-_, _+_}
 use native.Mathlib.Omega.{arith}
 use borrow.Author.Needs.{needs}
-use Rattle.form.proofs.Walks.{column-wrong}
+use Rattle.chains.proofs.Walks.{column-wrong}
 use Rattle.decode.proofs.Taking.{Taking, taking-start, no-room, taking-next, taking-end}
 use Rattle.decode.proofs.take_runs.Statement.{statement}
 use Rattle.decode.proofs.take_runs.Tie as tie

@@ -5,8 +5,8 @@ use Prim.Native.Nat.{_+_, _*_, _-_, _≤_, _<_}
 use borrow.Author.Needs.{needs}
 use Rattle.defs.specs.Computing.Words.{columnWords}
 use Rattle.tables.specs.Flat.{rowsFrom}
-use Rattle.encode.proofs.Storing.{Storing, storing-start, storing-four, storing-end}
-use Rattle.encode.proofs.Words.{column-next, column-last, column-end}
+use Rattle.words.proofs.Storing.{Storing, storing-start, storing-four, storing-end}
+use Rattle.freerecords.proofs.Words.{column-next, column-last, column-end}
 use Rattle.encode.proofs.put_column.Statement.{statement}
 use Rattle.encode.proofs.put_column.Tie as tie
 

@@ -3,9 +3,9 @@ use native.Mathlib.Omega.{arith}
 use Prim.Native.Nat.{_+_, _-_, _≤_}
 use borrow.Author.Needs.{needs}
 use Rattle.defs.specs.Computing.Test.{listFrom}
-use Rattle.encode.specs.Stored.{firstRecord, firstRecords}
-use Rattle.encode.proofs.Storing.{Storing, storing-start, storing-one, storing-as, storing-end}
-use Rattle.encode.proofs.Words.{from-next, from-end, firsts-start}
+use Rattle.freerecords.specs.Stored.{firstRecord, firstRecords}
+use Rattle.words.proofs.Storing.{Storing, storing-start, storing-one, storing-as, storing-end}
+use Rattle.freerecords.proofs.Words.{from-next, from-end, firsts-start}
 use Rattle.encode.proofs.put_firsts.Statement.{statement}
 use Rattle.encode.proofs.put_firsts.Tie as tie
 

@@ -3,7 +3,6 @@ use Rattle.laying.proofs.Tops.{lay-refused}
 use borrow.Author.Needs.{needs}
 use Rattle.laying.proofs.lay_sheet.Statement.{statement}
 use Rattle.laying.proofs.lay_sheet.Tie as tie
-use Rattle.laying.proofs.lay_sheet.Reads as reads
 
 ask-requires : tie.Need-ask-requires
 ask-requires c κs = search needs

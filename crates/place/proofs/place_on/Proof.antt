@@ -1,6 +1,6 @@
 -- 7 to 10 are asked before the others. Assumes nothing.
 use Rattle.tables.proofs.Copies.{none-before-0}
-use Rattle.place.proofs.Answers.{passed, refused-to-ten, refused-on, to-ten}
+use Rattle.position.proofs.Answers.{passed, refused-to-ten, refused-on, to-ten}
 use borrow.Author.Needs.{needs}
 use Rattle.place.proofs.place_on.Statement.{statement}
 use Rattle.place.proofs.place_on.Tie as tie

@@ -5,7 +5,7 @@ use native.Mathlib.Omega.{arith}
 use borrow.Author.Needs.{needs}
 use Rattle.records.specs.declared.Numbers.{Numbers}
 use Rattle.reads.proofs.Asking.{Asking, ask-start, ask-next, ask-stop, ask-end}
-use Rattle.reads.proofs.Along.{along-here, along-left, along-at}
+use Rattle.cutlist.proofs.Along.{along-here, along-left, along-at}
 use Rattle.reads.proofs.first_no.Statement.{statement}
 use Rattle.reads.proofs.first_no.Tie as tie
 

@@ -5,7 +5,7 @@ use lib.Seq.{length-take-le}
 use borrow.Author.Needs.{needs}
 use Rattle.records.specs.declared.Numbers.{Numbers}
 use Rattle.records.proofs.Copies.{gathered-long}
-use Rattle.reads.proofs.Words.{no-7, no-of}
+use Rattle.cutlist.proofs.Words.{no-7, no-of}
 use Rattle.reads.proofs.piece_no.Statement.{statement}
 use Rattle.reads.proofs.piece_no.Tie as tie
 

@@ -1,0 +1,23 @@
+-- Each case of the answer is packed by its own numbers. Assumes nothing.
+use borrow.Author.Needs.{needs}
+use Rattle.packing.proofs.pack_opening.Statement.{statement}
+use Rattle.packing.proofs.pack_opening.Tie as tie
+
+enum-told : tie.Need-enum-told
+enum-told c = search needs
+
+enum-known-a : tie.Need-enum-known-a
+enum-known-a c = search needs
+
+pack-refusal-requires : tie.Need-pack-refusal-requires
+pack-refusal-requires c κs = search needs
+
+returns : tie.Need-returns
+returns c = search needs
+
+returns-2 : tie.Need-returns-2
+returns-2 c = rw (c .before .before .a .given .1) (c .pack-refusal .ensures)
+
+pub pack-opening-spec : {M : Type 1} → statement M
+pack-opening-spec =
+    tie.close (tie.spec enum-told enum-known-a pack-refusal-requires returns returns-2)

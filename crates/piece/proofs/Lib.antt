@@ -1,0 +1,2 @@
+pub mod Currents
+pub mod Pieces

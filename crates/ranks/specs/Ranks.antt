@@ -1,0 +1,25 @@
+-- The better of two positions, by rank. Assumes nothing.
+use mathlib.Core.Bool.{Bool, cond, _&&_, _||_}
+use Prim.Native.Nat.{ℕ, max, min}
+use lib.Dec.{ltb, eqb}
+use Rattle.ranks.specs.declared.Ranked.{Ranked}
+use Rattle.ranks.specs.declared.Choice.{Choice}
+use Rattle.ranks.specs.declared.Choice.the-variants.{Chosen, Nowhere}
+use Rattle.ranks.specs.declared.Tried.{Tried}
+
+-- `beats` and `better` of the definitions, by rank
+abbrev pub beatsBy : Ranked → Ranked → Bool
+beatsBy q p = ltb (q .end) (p .end) || (eqb (q .end) (p .end) && ltb (q .top) (p .top))
+
+abbrev pub betterBy : Choice → Choice → Choice
+betterBy a Nowhere = a
+betterBy Nowhere (Chosen q) = Chosen q
+betterBy (Chosen p) (Chosen q) = cond (beatsBy q p) (Chosen q) (Chosen p)
+
+abbrev pub merged : Tried → Tried → Tried
+merged s x = record { most = max (s .most) (x .most); best = betterBy (s .best) (x .best); stands = x .stands }
+
+-- a position that ends after this column, of n, does not win against the choice
+abbrev pub limitOf : Choice → ℕ → ℕ
+limitOf (Chosen b) n = min (b .end) n
+limitOf Nowhere n = n
