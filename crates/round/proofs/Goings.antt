@@ -10,7 +10,8 @@ use native.Mathlib.Decide.{decLt}
 use Rattle.geom.proofs.Strip.{lt-or-le}
 use Rattle.tables.specs.Flat.{Occupied}
 use Rattle.tables.specs.Piece.{runColumn, runLow, runHigh}
-use Rattle.walk.specs.Free.{Column, Frame, ClearTo, FreeTo, Least, NoHeight}
+use Rattle.tries.specs.Tries.{Column, ClearTo}
+use Rattle.walk.specs.Free.{Frame, FreeTo, Least, NoHeight}
 use Rattle.walk.proofs.Jumps.{Below, below-none, run-column, taken}
 use Rattle.round.specs.Rounds.{Settled, NextRun, RunsLeft}
 

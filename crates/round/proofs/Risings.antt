@@ -9,8 +9,8 @@ use native.Mathlib.Decide.{decLt}
 use lib.ListN.{getD}
 use Rattle.geom.proofs.Strip.{lt-or-le}
 use Rattle.runs.specs.Runs.{Passes, Holds, Apart}
-use Rattle.walk.specs.Free.{Column}
-use Rattle.walk.proofs.Jumps.{clear-to, lands}
+use Rattle.tries.specs.Tries.{Column}
+use Rattle.tries.proofs.Tries.{clear-to, lands}
 use Rattle.round.specs.Rounds.{Skipped, Settled}
 
 -- a run ends in the rows of its column

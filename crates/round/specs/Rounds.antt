@@ -3,7 +3,8 @@
 use mathlib.Core.Path.{_≡_}
 use mathlib.Core.List.{List}
 use Prim.Native.Nat.{ℕ, _+_, _≤_, _<_}
-use Rattle.walk.specs.Free.{ClearTo, Lands, Least, NoHeight}
+use Rattle.tries.specs.Tries.{ClearTo, Lands}
+use Rattle.walk.specs.Free.{Least, NoHeight}
 use Rattle.round.specs.declared.Round.{Round}
 use Rattle.round.specs.declared.Round.the-variants.{Up, Full}
 

@@ -5,7 +5,8 @@
 ghost use mathlib.Core.Path.{_≡_};
 ghost use Prim.Native.Nat.{ℕ, _+_, _-_, _≤_, _<_, min};
 ghost use Rattle.tables.specs.Flat.{Occupied};
-ghost use Rattle.walk.specs.Free.{Column, Frame};
+ghost use Rattle.tries.specs.Tries.{Column};
+ghost use Rattle.walk.specs.Free.{Frame};
 ghost use Rattle.round.specs.Rounds.{Settled, NextRun, RunsLeft, Rounded};
 ghost use Rattle.round.specs.Range.{SearchedIn};
 use walk::Search;

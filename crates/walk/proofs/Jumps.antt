@@ -1,7 +1,7 @@
 -- What a clash says of the heights, and what its absence says: the run that is met keeps its rows, so no height is free until the piece's
 -- run lies above it; a run that meets none stays free until it is raised to the next one.
 -- Assumes nothing.
-use mathlib.Core.Path.{_≡_, ap, subst}
+use mathlib.Core.Path.{_≡_, subst}
 use mathlib.Core.List.{List}
 use mathlib.Core.Logic.{⊎-elim}
 use Prim.Native.Nat.{ℕ, _+_, _-_, _*_, _≤_, _<_}
@@ -11,11 +11,11 @@ use native.Mathlib.Decide.{decLt}
 use borrow.Author.Count.{below-more}
 use lib.ListN.{getD}
 use Rattle.geom.proofs.Strip.{lt-or-le}
-use Rattle.runs.specs.Runs.{Passes}
 use Rattle.tables.specs.Flat.{Occupied, Laid}
 use Rattle.tables.specs.Piece.{runColumn, runLow, runHigh}
 use Rattle.tables.proofs.Flats.{firsts-most}
-use Rattle.walk.specs.Free.{Column, Frame, FreeTo, Lowest, ClearTo, Lands, GoesOn, Least, NoHeight}
+use Rattle.tries.specs.Tries.{Column, Lowest, ClearTo, Lands}
+use Rattle.walk.specs.Free.{Frame, FreeTo, GoesOn, Least, NoHeight}
 
 -- the columns of a table laid flat
 column-of : {f l h : List ℕ} {W N n c : ℕ} → Laid f l h W N n → c < N → Column f l h c
@@ -29,31 +29,6 @@ column-of {c = c} laid u =
       highs = omega (arith, most, flat .highs);
       runs = laid .runs c u;
     }
-
-module _ {f l h : List ℕ} {c lo hi y i : ℕ} (k : Column f l h c) (p : Passes h (getD f c 0) (getD f (c + 1) 0) (y + lo) i) where
-  -- no run of the column meets the rows, up to a height z at which the first that could lies right above them
-  pub clear-to : {most z : ℕ} → y ≤ z → z ≤ most → (i < getD f (c + 1) 0 → z + hi ≤ getD l i 0) → ClearTo f l h c lo hi y most z
-  clear-to {z = z} low high q =
-      record { low = low; high = high; clear = λ u a b x v w o. at u x a b v w o (decLt (o .which) i) (decLt i (o .which)) }
-    where
-      at : (u x : ℕ) → y ≤ u → u ≤ z → u + lo ≤ x → x < u + hi → (o : Occupied f l h c x) →
-          Dec (o .which < i) → Dec (i < o .which) → ⊥
-      at u x a b v w o (yes s) t = omega (arith, p .within (o .which) s (o .from), o .high)
-      at u x a b v w o (no s) (yes t) =
-          omega (
-            arith,
-            q (omega (arith, o .among)),
-            k .runs .full i (p .from) (omega (arith, o .among)),
-            k .runs .apart i (o .which) (p .from) t (o .among),
-            o .low,
-          )
-      at u x a b v w o (no s) (no t) =
-          let e : o .which ≡ i = omega arith in
-          omega (arith, q (omega (arith, o .among)), o .low, ap (λ (x : ℕ). getD l x 0) e)
-
-  pub lands : {z : ℕ} → i < getD f (c + 1) 0 → getD l i 0 < y + hi → z + lo ≡ getD h i 0 → Lands f l h c lo hi y z
-  lands a b e =
-      record { which = i; lowest = record { from = p .from; to = a; over = p .found a; under = b; below = p .within }; on = e }
 
 free-none : (f l h r : List ℕ) (c y : ℕ) → FreeTo f l h r c y 0
 free-none f l h r c y = record { clear = λ m p. absurd (omega arith) }

@@ -3,9 +3,9 @@
 -- Assumes nothing.
 use borrow.Author.Needs.{needs}
 use native.Mathlib.Omega.{arith}
-use Rattle.walk.proofs.Jumps.{clear-to, lands}
-use Rattle.walk.proofs.try_run.Statement.{statement}
-use Rattle.walk.proofs.try_run.Tie as tie
+use Rattle.tries.proofs.Tries.{clear-to, lands}
+use Rattle.tries.proofs.try_run.Statement.{statement}
+use Rattle.tries.proofs.try_run.Tie as tie
 
 mul-a : tie.Need-mul-a
 mul-a c = search needs
