@@ -1,5 +1,7 @@
 //! The limits of the paper and the small types the calls answer with.
 
+use std::fmt;
+
 /// "whole units 0 to 16,000"
 pub const MOST_COORDINATE: u16 = 16_000;
 /// "An outline is 3 to 64 vertices"
@@ -25,6 +27,13 @@ pub const MOST_SHEET_BYTES: usize = 65_536;
 pub struct Refusal {
     pub number: u16,
     pub ordinal: u16,
+}
+
+/// "a refused job only `job refused 10 2` (number, ordinal or 0)"
+impl fmt::Display for Refusal {
+    fn fmt(&self, to: &mut fmt::Formatter) -> fmt::Result {
+        write!(to, "job refused {} {}", self.number, self.ordinal)
+    }
 }
 
 /// "A position is turn, column c, height y"

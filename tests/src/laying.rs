@@ -3,7 +3,7 @@
 use crate::figures::*;
 use crate::outline::{columns_wide, extent, turned, vertices};
 use crate::placing::place;
-use crate::sheet::{ask_1_to_3, piece_chain, pieces_of_sheet};
+use crate::sheet::{ask_1_to_3, pieces_of_sheet};
 use crate::strip::{ask_4, open};
 
 /// "Output is four words a piece: 0 or its number, turn, column, height (zeros
@@ -51,17 +51,18 @@ fn end_column(piece: &Piece, position: &Position, r: u16) -> u16 {
     position.column + columns_wide(w, i64::from(r)) as u16
 }
 
-/// "Program `lay` reads a sheet from standard input (Q 4,000, work buffer 9,000
-/// words)." What it prints for the whole of its standard input.
-pub fn lay_text(input: &[u8]) -> String {
-    match lay_with_program_buffers(input) {
-        Ok(text) => text,
-        // "a refused job only `job refused 10 2` (number, ordinal or 0)"
-        Err(refusal) => format!("job refused {} {}\n", refusal.number, refusal.ordinal),
-    }
+/// A job as program `lay` lays it.
+pub struct LaidJob {
+    pub figures: Figures,
+    pub pieces: Vec<Piece>,
+    /// Where each piece is placed, or the number it is refused with.
+    pub fates: Vec<Result<Position, u16>>,
+    pub totals: Totals,
 }
 
-fn lay_with_program_buffers(sheet: &[u8]) -> Result<String, Refusal> {
+/// "Program `lay` reads a sheet from standard input (Q 4,000, work buffer 9,000
+/// words)."
+pub fn laid_job(sheet: &[u8]) -> Result<LaidJob, Refusal> {
     // N is needed for the strip's length. Where 1, 2 or 3 says no, so would lay
     // itself, before it asks about the strip.
     let figures = ask_1_to_3(sheet)?;
@@ -69,27 +70,48 @@ fn lay_with_program_buffers(sheet: &[u8]) -> Result<String, Refusal> {
     let mut work = vec![0; 9_000];
     let mut output = vec![0; ENTRY * MOST_PIECES];
     let totals = lay(sheet, &mut strip, &mut output, &mut work)?;
-    let piece_count = piece_chain(sheet)?.len();
-    let entries = output.chunks_exact(ENTRY).take(piece_count);
-    Ok(text(&figures, entries, &totals))
+    let pieces = pieces_of_sheet(sheet)?;
+    let entries = output.chunks_exact(ENTRY).take(pieces.len());
+    Ok(LaidJob {
+        figures,
+        fates: entries.map(fate).collect(),
+        pieces,
+        totals,
+    })
+}
+
+fn fate(entry: &[u16]) -> Result<Position, u16> {
+    match entry[0] {
+        0 => Ok(Position {
+            turn: entry[1],
+            column: entry[2],
+            height: entry[3],
+        }),
+        number => Err(number),
+    }
+}
+
+/// What program `lay` prints for the whole of its standard input.
+pub fn lay_text(input: &[u8]) -> String {
+    match laid_job(input) {
+        Ok(job) => text(&job),
+        Err(refusal) => format!("{refusal}\n"),
+    }
 }
 
 /// "Fields: W, R, N; ordinal, turn, column, height; used columns, pieces
 /// placed. A refused piece prints `3 refused 14`"
-fn text<'a>(
-    figures: &Figures,
-    entries: impl Iterator<Item = &'a [u16]>,
-    totals: &Totals,
-) -> String {
+fn text(job: &LaidJob) -> String {
+    let (figures, totals) = (job.figures, job.totals);
     let mut lines = vec![format!(
         "strip {} {} {}",
         figures.width, figures.resolution, figures.columns
     )];
-    for (place, entry) in entries.enumerate() {
+    for (place, fate) in job.fates.iter().enumerate() {
         let ordinal = place + 1;
-        lines.push(match entry[0] {
-            0 => format!("{ordinal} placed {} {} {}", entry[1], entry[2], entry[3]),
-            number => format!("{ordinal} refused {number}"),
+        lines.push(match fate {
+            Ok(at) => format!("{ordinal} placed {} {} {}", at.turn, at.column, at.height),
+            Err(number) => format!("{ordinal} refused {number}"),
         });
     }
     lines.push(format!("used {} placed {}", totals.used, totals.placed));

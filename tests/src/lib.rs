@@ -7,6 +7,9 @@
 //! outline covers ([`cells`]) and the search for a position ([`placing`]); the
 //! tests compare the two forms.
 //!
+//! Modules [`text`] and [`picture`] are not of the paper: they say what programs
+//! `sheet`, `show` and `draw` print.
+//!
 //! Module [`generate`] makes inputs of every kind, good and bad, from a seed.
 
 pub mod bytes;
@@ -15,10 +18,12 @@ pub mod figures;
 pub mod generate;
 pub mod laying;
 pub mod outline;
+pub mod picture;
 pub mod placing;
 pub mod questions;
 pub mod sheet;
 pub mod strip;
+pub mod text;
 
 pub use cells::{cover, runs};
 pub use figures::{Figures, Piece, Position, Refusal, Totals};

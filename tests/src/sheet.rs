@@ -77,7 +77,7 @@ pub fn ask_1_to_3(sheet: &[u8]) -> Result<Figures, Refusal> {
 
 /// "6. Does the piece chain stay in 1 to P and end within 200 pieces?" The
 /// record numbers of the chain, of a sheet that passed 1 and 2.
-pub fn piece_chain(sheet: &[u8]) -> Result<Vec<usize>, Refusal> {
+fn piece_chain(sheet: &[u8]) -> Result<Vec<usize>, Refusal> {
     let mut numbers = Vec::new();
     let mut present = first_piece(sheet);
     while present != 0 {

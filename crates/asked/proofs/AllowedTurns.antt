@@ -16,8 +16,9 @@ use Rattle.defs.specs.Computing.Cells.{pieceRuns, countRuns, allowedb}
 use Rattle.geom.proofs.Column.{and-last}
 use Rattle.geom.proofs.Checks.{cell-of-turn, question-11}
 use Rattle.outline.specs.Vertex.{Lent}
-use Rattle.asked.specs.Answers.{HasCell, AllowedCell, SomeCell}
-use Rattle.asked.proofs.OneColumn.{some-side}
+use Rattle.inside.specs.Cell.{HasCell}
+use Rattle.asked.specs.Answers.{AllowedCell, SomeCell}
+use Rattle.inside.proofs.OneColumn.{some-side}
 
 -- question 10 of an allowed turn, and of one that passes the mask's test
 allowed-ordered : (o : List ℕ) (mask : ℕ) → Question10 o mask → (t : ℕ) → Allows mask t → KeepsOrder (turned o t)

@@ -1,4 +1,2 @@
-pub mod OneColumn
-pub mod FirstSlab
 pub mod AllowedTurns
 pub mod InOrder

@@ -19,7 +19,7 @@ fn nothing() -> Filled
 {
     Filled {
         runs: 0,
-        slab: section::none(),
+        slab: cuts::none(),
     }
 }
 

@@ -13,8 +13,9 @@ use borrow.Author.Tests.{lt-ltb, le-ltb}
 use lib.ListN.{getD}
 use Rattle.defs.specs.Meaning.Strip.{widthOf, columnsOf, firstOf, lowOf, highOf, nextOf, IsFree}
 use Rattle.chains.specs.Form.{recAt, Within, ChainOf}
-use Rattle.chains.specs.declared.Shape.{Shape}
-use Rattle.chains.specs.Answers.{Sized, RunFrom, RunTo, NoRun, LeadsOn, InOrder, NoChain}
+use Rattle.striprecords.specs.declared.Shape.{Shape}
+use Rattle.striprecords.specs.Free.{Sized, InOrder}
+use Rattle.chains.specs.Answers.{RunFrom, RunTo, NoRun, NoChain}
 use Rattle.chains.proofs.Steps.{start, step, chain-most, within-most, goes-on-at}
 
 -- the words that a chain begins with
@@ -191,22 +192,3 @@ module _ {s : List ℕ} {Q c : ℕ} where
           let last : e ≤ Q = d .last (omega arith) in
           rw (sym (add-one n))
           (free-next (go n (omega arith)) (omega arith) (omega arith) (omega arith) (x .free) (omega (arith, x .next)))
-
--- records in order: none, and one more
-pub order-none : (s : List ℕ) (Q r : ℕ) → InOrder s Q r r
-order-none s Q r =
-    record {
-      from = omega arith;
-      first = λ l. absurd (omega arith);
-      last = λ l. absurd (omega arith);
-      each = λ i l m. absurd (omega arith);
-    }
-
-pub order-more : {s : List ℕ} {Q r e : ℕ} → InOrder s Q r e → 0 < r → e < Q → LeadsOn s e → InOrder s Q r (e + 1)
-order-more o p l x =
-    record {
-      from = omega (arith, o .from);
-      first = λ m. p;
-      last = λ m. omega arith;
-      each = below-more _ _ (o .each) (λ m. x);
-    }

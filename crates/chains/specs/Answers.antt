@@ -1,22 +1,13 @@
 -- What each function of the crate answers, case by case. Assumes nothing.
 use mathlib.Core.Path.{_≡_}
 use mathlib.Core.List.{List}
-use Prim.Native.Nat.{ℕ, _+_, _≤_, _<_}
-use lib.ListN.{length}
-use Rattle.defs.specs.Meaning.Strip.{Limits, Length, widthOf, resolutionOf, columnsOf, columnOf, lowOf, highOf, nextOf, IsFree}
+use Prim.Native.Nat.{ℕ, _≤_, _<_}
+use Rattle.defs.specs.Meaning.Strip.{widthOf, columnOf, lowOf, highOf}
 use Rattle.chains.specs.Form.{ChainOf}
-use Rattle.chains.specs.declared.Shape.{Shape}
 use Rattle.chains.specs.declared.Chain.{Chain}
 use Rattle.chains.specs.declared.Chain.the-variants.{Whole, Broken}
 use Rattle.chains.specs.declared.Mark.{Mark}
 use Rattle.chains.specs.declared.Mark.the-variants.{High, Wrong}
-
--- Length and limits are kept, and g has W, N and Q.
-pub record Sized (s : List ℕ) (g : Shape) : Type 0 where
-  pub width : g .width ≡ widthOf s
-  pub columns : g .columns ≡ columnsOf s
-  pub limits : Limits (widthOf s) (resolutionOf s) (columnsOf s)
-  pub long : Length (columnsOf s) (g .records) (length s)
 
 -- r is a record, and a run of column c that begins at row m or later.
 pub record RunFrom (s : List ℕ) (Q c m r : ℕ) : Type 0 where
@@ -36,18 +27,6 @@ pub record NoRun (s : List ℕ) (Q c m r : ℕ) : Type 0 where
 abbrev pub Marks : List ℕ → ℕ → ℕ → ℕ → ℕ → Mark → Type 0
 Marks s Q c m r (High h) = RunTo s Q c m r h
 Marks s Q c m r Wrong = NoRun s Q c m r
-
--- Record r is free, and its next is r + 1.
-pub record LeadsOn (s : List ℕ) (r : ℕ) : Type 0 where
-  pub free : IsFree s r
-  pub next : nextOf s r ≡ r + 1
-
--- Records r to e - 1, where there are any, lead on, each to one of 1 to Q.
-pub record InOrder (s : List ℕ) (Q r e : ℕ) : Type 0 where
-  pub from : r ≤ e
-  pub first : r < e → 0 < r
-  pub last : r < e → e ≤ Q
-  pub each : (i : ℕ) → i < e → r ≤ i → LeadsOn s i
 
 pub record NoChain (s : List ℕ) (Q c : ℕ) : Type 0 where
   pub none : (k : ℕ) → ChainOf s Q c k → ⊥

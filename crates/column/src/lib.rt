@@ -9,8 +9,8 @@ ghost use Rattle.outline.specs.Vertex.{Lent, BoundsOf};
 ghost use Rattle.entries.specs.Edges.{AllFit};
 ghost use Rattle.gaps.specs.Gaps.{Room};
 ghost use Rattle.column.specs.Rows.{AddsPart, onLine, Heights, Parted, Working, ColumnOf};
+use cuts::Section;
 use outline::Bounds;
-use section::Section;
 
 // The runs of a column, and the slab that was looked at last.
 pub struct Filled {

@@ -8,7 +8,8 @@ use Rattle.defs.specs.Meaning.Limits.{mostVertices}
 use Rattle.defs.specs.Meaning.Sheet.{sheetV, vertexNumber, vertexWords}
 use Rattle.defs.specs.Computing.Sheets.{pieceOf, verticesOf}
 use Rattle.laws.proofs.Walks.{chain-step}
-use Rattle.records.specs.Records.{recordNumber, nextVertex}
+use Rattle.reader.specs.Records.{recordNumber}
+use Rattle.records.specs.Records.{nextVertex}
 use Rattle.copies.specs.Copy.{wordsFrom, SameVertices, Copy, StartsAt}
 
 words-step : (b : List ℕ) (n r : ℕ) → 0 < r →

@@ -6,7 +6,7 @@ ghost use Prim.Native.Nat.{_+_, _*_, _≤_};
 ghost use lib.ListN.{length};
 ghost use Rattle.cutlist.specs.Pieces.{PieceAt};
 ghost use Rattle.copies.specs.Copy.{SameVertices, StartsAt};
-use records::Numbers;
+use reader::Numbers;
 
 // Whether two vertices are the same.
 fn same_vertex(m: Numbers, n: Numbers) -> bool
@@ -39,8 +39,8 @@ fn same_vertices(sheet: &[u8], v: usize, x: u16, y: u16) -> bool
         if v < j {
             return false;
         }
-        let m = records::visit(sheet, i);
-        let n = records::visit(sheet, j);
+        let m = reader::visit(sheet, i);
+        let n = reader::visit(sheet, j);
         if !same_vertex(m, n) {
             return false;
         }
@@ -57,8 +57,8 @@ pub fn start_of(sheet: &[u8], v: usize, last: usize, at: usize, lower: u16) -> u
     requires { ⌜ PieceAt (now sheet) v last ⌝ ∗ ⌜ PieceAt (now sheet) v at ⌝ }
     ensures { λ s. ⌜ StartsAt (now (sheet .entry)) last at lower s ⌝ }
 {
-    let p = records::visit(sheet, v + last);
-    let q = records::visit(sheet, v + at);
+    let p = reader::visit(sheet, v + last);
+    let q = reader::visit(sheet, v + at);
     if p.second != q.second {
         return 0;
     }

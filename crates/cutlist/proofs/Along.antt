@@ -11,7 +11,7 @@ use Rattle.defs.specs.Meaning.Sheet.{sheetV, sheetP, firstPiece, pieceNumber}
 use Rattle.defs.specs.Computing.Test.{chainBy, endsBy}
 use Rattle.defs.specs.Computing.Sheets.{q6b}
 use Rattle.laws.proofs.Walks.{chain-zero, chain-step, ends-step, no-room}
-use Rattle.records.specs.Records.{recordNumber}
+use Rattle.reader.specs.Records.{recordNumber}
 use Rattle.cutlist.specs.Pieces.{PieceAt, ChainEnds}
 
 abbrev pub nextPiece : List ℕ → ℕ → ℕ

@@ -18,7 +18,8 @@ use Rattle.laws.proofs.SheetChains.{length-vertexWords}
 use Rattle.laws.proofs.Walks.{chain-few}
 use Rattle.asked.specs.Answers.{FirstNo}
 use Rattle.sheets.proofs.Chains.{Ends, Ill, chain-more}
-use Rattle.records.specs.Records.{recordNumber, nextVertex, Gathered}
+use Rattle.reader.specs.Records.{recordNumber}
+use Rattle.records.specs.Records.{nextVertex, Gathered}
 use Rattle.records.proofs.Copies.{outline-is, piece-ends, piece-ill, gathered-long}
 use Rattle.words.specs.Put.{Put}
 use Rattle.cutlist.specs.Pieces.{PieceAt, VertexEnds, PieceFits, PieceCounted}

@@ -15,7 +15,7 @@ fn piece_words(sheet: &[u8], v: usize, at: usize) -> usize
     requires { ⌜ PieceAt (now sheet) v at ⌝ ∗ ⌜ VertexEnds (now sheet) at ⌝ }
     ensures { λ r. ⌜ PieceCounted (now (sheet .entry)) at r ⌝ }
 {
-    let piece = records::visit(sheet, v + at);
+    let piece = reader::visit(sheet, v + at);
     match records::follow(sheet, 0, v, piece.first, numbers::MOST_VERTICES) {
         Chain::Whole(n) => 2 + 2 * n,
         Chain::Broken => 0,
@@ -27,12 +27,12 @@ pub fn list_words(sheet: &[u8], v: usize) -> usize
     requires { ⌜ ChainEnds (now sheet) v ⌝ ∗ ⌜ AllEnd (now sheet) (pieceRecords (now sheet)) ⌝ }
     ensures { λ r. ⌜ r ≡ length (listWords (sheetPieces (now (sheet .entry)))) ⌝ }
 {
-    let mut at = records::number(sheet, records::FIRST_PIECE) as usize;
+    let mut at = fields::number(sheet, fields::FIRST_PIECE) as usize;
     let mut left = records::MOST_PIECES;
     let mut total: usize = 1;
     while 0 < at {
         total += piece_words(sheet, v, at);
-        at = records::visit(sheet, v + at).next as usize;
+        at = reader::visit(sheet, v + at).next as usize;
         left -= 1;
     }
     total
@@ -43,7 +43,7 @@ fn put_piece(sheet: &[u8], v: usize, at: usize, out: &mut [u16], to: usize) -> u
     requires { ⌜ PieceFits (now sheet) v at (now out) to ⌝ }
     ensures { λ r. ⌜ Put (now (out .entry)) (now (out .exit)) to (pieceWords (pieceOf (now (sheet .entry)) at)) r ⌝ }
 {
-    let piece = records::visit(sheet, v + at);
+    let piece = reader::visit(sheet, v + at);
     let mut words = [0u16; numbers::MOST_WORDS];
     match records::gather(sheet, v, piece.first, &mut words) {
         Chain::Whole(n) => {
@@ -62,12 +62,12 @@ fn put_pieces(sheet: &[u8], v: usize, out: &mut [u16])
     requires { ⌜ PiecesRoom (now sheet) v (now out) ⌝ }
     ensures { λ _. ⌜ now (out .exit) ≡ sets (now (out .entry)) 1 (piecesWords (sheetPieces (now (sheet .entry)))) ⌝ }
 {
-    let mut at = records::number(sheet, records::FIRST_PIECE) as usize;
+    let mut at = fields::number(sheet, fields::FIRST_PIECE) as usize;
     let mut left = records::MOST_PIECES;
     let mut o: usize = 1;
     while 0 < at {
         o = put_piece(sheet, v, at, out, o);
-        at = records::visit(sheet, v + at).next as usize;
+        at = reader::visit(sheet, v + at).next as usize;
         left -= 1;
     }
 }

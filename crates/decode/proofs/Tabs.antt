@@ -13,7 +13,7 @@ use Rattle.defs.specs.Meaning.Strip.{columnsOf}
 use Rattle.defs.specs.Computing.Words.{recordsOf, wellFormedb, runsOf, columnsRuns}
 use Rattle.laws.proofs.Questions.{records-are}
 use Rattle.tables.specs.Flat.{rowAt, rowsFrom, rowsIn, tableOf}
-use Rattle.chains.specs.declared.Shape.{Shape}
+use Rattle.striprecords.specs.declared.Shape.{Shape}
 use Rattle.chains.specs.Form.{recAt, ChainOf, Counted}
 use Rattle.form.proofs.Seen.{seen-most}
 use Rattle.form.proofs.Totals.{On, on-next, on-fits, ended}

@@ -11,8 +11,9 @@ use lib.Seq.{getD-set-same, getD-set-other}
 use Rattle.defs.specs.Meaning.Strip.{columnsOf, lowOf, nextOf}
 use Rattle.tables.specs.Flat.{rowAt}
 use Rattle.chains.specs.Form.{recAt}
-use Rattle.chains.specs.declared.Shape.{Shape}
-use Rattle.chains.specs.Answers.{Sized, RunTo, NoChain}
+use Rattle.striprecords.specs.declared.Shape.{Shape}
+use Rattle.striprecords.specs.Free.{Sized}
+use Rattle.chains.specs.Answers.{RunTo, NoChain}
 use Rattle.chains.proofs.Walks.{OnColumn, walk-inside, column-start, column-next, column-end}
 use Rattle.decode.specs.Takes.{runAt, Room, Copied, Taken}
 

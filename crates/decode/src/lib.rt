@@ -2,13 +2,13 @@
 
 ghost use Prim.Native.Nat.{_≤_, _<_};
 ghost use lib.ListN.{length};
-ghost use Rattle.chains.specs.Answers.{Sized};
+ghost use Rattle.striprecords.specs.Free.{Sized};
 ghost use Rattle.decode.specs.Takes.{Room, Takes};
 ghost use Rattle.decode.specs.Decodes.{Decodes};
 use chains::Chain;
 use chains::Mark;
-use chains::Shape;
 use form::Size;
+use striprecords::Shape;
 
 // The number of runs.
 pub enum Decoded {
@@ -22,7 +22,7 @@ fn take_runs(s: &[u16], g: Shape, c: usize, t: usize, lows: &mut [u16], highs: &
         ∗ ⌜ Room (now s) (g .records) c t ⌝ ∗ ⌜ (g .records ≤ length (now lows)) × (g .records ≤ length (now highs)) ⌝ }
     ensures { λ a. ⌜ Takes (now (s .entry)) (now (lows .entry)) (now (highs .entry)) (now (lows .exit)) (now (highs .exit)) (g .records) c t a ⌝ }
 {
-    let mut at = chains::word(s, limits::LEADING_WORDS + c);
+    let mut at = striprecords::word(s, limits::LEADING_WORDS + c);
     let mut m: usize = 0;
     let mut k: usize = 0;
     while 0 < at {
@@ -31,11 +31,11 @@ fn take_runs(s: &[u16], g: Shape, c: usize, t: usize, lows: &mut [u16], highs: &
         }
         match chains::check_run(s, g, c, m, at) {
             Mark::High(h) => {
-                lows[t + k] = chains::word_of(s, g, at, limits::LOW) as u16;
+                lows[t + k] = striprecords::word_of(s, g, at, limits::LOW) as u16;
                 highs[t + k] = h as u16;
                 m = h + 1;
                 k += 1;
-                at = chains::word_of(s, g, at, limits::NEXT);
+                at = striprecords::word_of(s, g, at, limits::NEXT);
             }
             Mark::Wrong => {
                 return Chain::Broken;

@@ -10,10 +10,10 @@ use lib.Seq.{getD-set-same, getD-set-other}
 use Rattle.runs.specs.Runs.{Holds}
 use Rattle.tables.specs.Flat.{Flat}
 use Rattle.tables.proofs.Flats.{firsts-most}
-use Rattle.enter.specs.declared.Entry.{Entry}
-use Rattle.enter.specs.declared.Built.{Built}
-use Rattle.enter.specs.Columns.{Kept, Split, ColumnIs, EntersColumn}
-use Rattle.enter.proofs.Adding.{room-left}
+use Rattle.columnentry.specs.declared.Entry.{Entry}
+use Rattle.columnentry.specs.declared.Built.{Built}
+use Rattle.columnentry.specs.Columns.{Kept, Split, ColumnIs, EntersColumn}
+use Rattle.columnentry.proofs.Adding.{room-left}
 
 -- the first k columns of the new table are entered
 pub record Building (f l h r f' l' h' : List ℕ) (g : Entry) (k : ℕ) (b : Built) : Type 0 where

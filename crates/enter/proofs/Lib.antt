@@ -1,5 +1,2 @@
-pub mod Copying
-pub mod Adding
-pub mod Columns
 pub mod Building
 pub mod Whole

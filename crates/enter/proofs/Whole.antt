@@ -20,9 +20,9 @@ use Rattle.tables.specs.Piece.{Stands, RunHolds}
 use Rattle.tables.proofs.Flats.{in-flat, apart-flat, column-flat, table-flat}
 use Rattle.tables.proofs.PieceWords.{piece-rows}
 use Rattle.tables.proofs.Entered.{entered-at, entered-length}
-use Rattle.enter.specs.declared.Entry.{Entry}
-use Rattle.enter.specs.declared.Built.{Built}
-use Rattle.enter.specs.Columns.{Old, Fits, Split, OfRuns}
+use Rattle.columnentry.specs.declared.Entry.{Entry}
+use Rattle.columnentry.specs.declared.Built.{Built}
+use Rattle.columnentry.specs.Columns.{Old, Fits, Split, OfRuns}
 use Rattle.enter.specs.Enters.{after, Entered, TooMany}
 use Rattle.enter.proofs.Building.{Building}
 

@@ -10,7 +10,7 @@ use Rattle.defs.specs.Computing.Search.{position, enteredFrom}
 use Rattle.geom.proofs.RunLists.{Apart}
 use Rattle.tables.specs.Flat.{tableOf, Laid}
 use Rattle.tables.specs.Piece.{Stands}
-use Rattle.enter.specs.declared.Entry.{Entry}
+use Rattle.columnentry.specs.declared.Entry.{Entry}
 use Rattle.enter.specs.declared.Entering.{Entering}
 use Rattle.enter.specs.declared.Entering.the-variants.{Runs, Full}
 

@@ -16,9 +16,10 @@ use Rattle.defs.specs.Computing.Words.{limitsb, lengthb, recordsOf, wellFormedb
 use Rattle.laws.proofs.Tests.{Decides}
 use Rattle.laws.proofs.Questions.{question-3, question-4, length-decides}
 use Rattle.laws.proofs.Complete.{question-5}
-use Rattle.chains.specs.declared.Shape.{Shape}
+use Rattle.striprecords.specs.declared.Shape.{Shape}
 use Rattle.chains.specs.Form.{ChainOf, Counted, Formed}
-use Rattle.chains.specs.Answers.{Sized, NoChain}
+use Rattle.striprecords.specs.Free.{Sized}
+use Rattle.chains.specs.Answers.{NoChain}
 use Rattle.form.proofs.Meaning.{form-is}
 use Rattle.form.proofs.Seen.{Seen, seen-none, seen-chain, seen-most, all-placed, all-counted}
 

@@ -7,7 +7,7 @@ use Prim.Native.Nat.{ℕ}
 use Rattle.defs.specs.Computing.Words.{wellFormedb}
 use Rattle.form.specs.declared.Size.{Size}
 use Rattle.form.specs.declared.Size.the-variants.{Kept, Ill}
-use Rattle.chains.specs.Answers.{Sized}
+use Rattle.striprecords.specs.Free.{Sized}
 
 abbrev pub Sizes : List ℕ → Size → Type 0
 Sizes s (Kept g) = Sized s g

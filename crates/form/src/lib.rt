@@ -4,10 +4,10 @@
 ghost use mathlib.Core.Path.{_≡_};
 ghost use Prim.Native.Nat.{_<_};
 ghost use Rattle.defs.specs.Computing.Words.{wellFormedb};
-ghost use Rattle.chains.specs.Answers.{Sized};
+ghost use Rattle.striprecords.specs.Free.{Sized};
 ghost use Rattle.form.specs.Answers.{Sizes};
 use chains::Chain;
-use chains::Shape;
+use striprecords::Shape;
 
 pub enum Size {
     Kept(Shape),
@@ -30,8 +30,8 @@ pub fn measure(s: &[u16]) -> Size
         return Size::Ill;
     }
     Size::Kept(Shape {
-        width: chains::word(s, limits::WIDTH),
-        columns: chains::word(s, limits::COLUMNS),
+        width: striprecords::word(s, limits::WIDTH),
+        columns: striprecords::word(s, limits::COLUMNS),
         records: limits::records_of(n, l),
     })
 }

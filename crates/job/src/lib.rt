@@ -36,7 +36,7 @@ fn lay_all(
         ∗ ⌜ Fresh (now sheet) (now first) (now lows) (now highs) (now first2) (now lows2) (now highs2) (g .width) (g .resolution) (g .columns) (length (now strip)) ⌝ }
     ensures { λ t. ⌜ JobDone (now (sheet .entry)) (now (strip .entry)) (now (out .entry)) (length (now (work .entry))) t (now (strip .exit)) (now (out .exit)) ⌝ }
 {
-    let v = records::number(sheet, records::VERTICES) as usize;
+    let v = fields::number(sheet, fields::VERTICES) as usize;
     let q = limits::records_of(g.columns, strip.len());
     let t = sequence::lay_chain(
         sheet,

@@ -23,8 +23,9 @@ use Rattle.defs.specs.Computing.Calls.{refusal, q9b, q12b, q14b, outlineNo, cho
 use Rattle.defs.specs.Computing.Lay.{fateOf, heldAfter, entriesFrom, entriesWords}
 use Rattle.defs.specs.Computing.Text.{decimal, entryLine, entryLines}
 use Rattle.laws.proofs.Entries.{length-entriesFrom, length-entriesWords}
-use Rattle.layout.specs.Lines.{fourLine, fourLines}
-use Rattle.layout.proofs.Lines.{fate-placed, fate-refused}
+use Rattle.layoutlines.specs.Line.{fourLine}
+use Rattle.layout.specs.Lines.{fourLines}
+use Rattle.layoutlines.proofs.Line.{fate-placed, fate-refused}
 
 -- a refused piece has a number
 abbrev Numbered : Placing → Type 0

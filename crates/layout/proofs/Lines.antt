@@ -1,30 +1,18 @@
 -- The lines of entries, one after another: how long they are, and what is left to put.
 -- Assumes nothing.
-use mathlib.Core.Path.{_≡_, refl, ap}
+use mathlib.Core.Path.{_≡_, ap}
 use mathlib.Core.Bool.{cond}
 use mathlib.Core.List.{List, [], _∷_}
 use Prim.Native.Nat.{ℕ, zero, suc, _+_, _-_, _*_, _≤_, _<_}
 use native.Mathlib.Omega.{arith}
 use lib.Dec.{eqb}
-use lib.ListN.{length, getD, set, length-append}
-use borrow.Author.Tests.{eq-eqb, ne-eqb}
+use lib.ListN.{length, getD, length-append}
 use Rattle.defs.specs.Computing.Ascii.{ascii}
 use Rattle.defs.specs.Computing.Text.{decimal, spaced, line}
 use Rattle.words.specs.Put.{Put}
-use Rattle.layout.specs.Lines.{lined, fateLine, fourLine, fourLines, EntriesFit}
-use Rattle.print.proofs.Puts.{then, either-few, decimal-few, spaced-few, Putting, put-start, put-next, put-end}
-
-pub line-put : {o o₁ o₂ : List ℕ} {at a b : ℕ} {word : List ℕ} (ns : List ℕ) → Put o o₁ at word a → Put o₁ o₂ a (spaced ns) b →
-    Put o (set o₂ b 10) at (lined word ns) (b + 1)
-line-put ns p q = then p (then q (record { words = refl; after = refl }))
-
-pub fate-placed : {n : ℕ} (t c h : ℕ) → n ≡ 0 → line " placed" (t ∷ c ∷ h ∷ []) ≡ fateLine n t c h
-unfolding fateLine
-fate-placed {n} t c h e = rw (eq-eqb n 0 e)
-
-pub fate-refused : (n t c h : ℕ) → ¬ (n ≡ 0) → line " refused" (n ∷ []) ≡ fateLine n t c h
-unfolding fateLine
-fate-refused n t c h e = rw (ne-eqb n 0 e)
+use Rattle.layoutlines.specs.Line.{fateLine, fourLine}
+use Rattle.layout.specs.Lines.{fourLines, EntriesFit}
+use Rattle.print.proofs.Puts.{either-few, decimal-few, spaced-few, Putting, put-start, put-next, put-end}
 
 placed-few : (t c h : ℕ) → length (line " placed" (t ∷ c ∷ h ∷ [])) ≤ 26
 unfolding line ascii

@@ -1,29 +1,13 @@
 -- The lines that are put, from the numbers that are at hand.
 -- Assumes nothing.
-use mathlib.Core.Bool.{cond}
 use mathlib.Core.List.{List, [], _∷_, _++_}
 use Prim.Native.Nat.{ℕ, zero, suc, _+_, _*_, _≤_}
-use lib.Dec.{eqb}
 use lib.ListN.{length, getD}
 use Rattle.defs.specs.declared.Figures.{Figures}
 use Rattle.defs.specs.declared.Totals.{Totals}
 use Rattle.defs.specs.Meaning.Limits.{mostPieces}
-use Rattle.defs.specs.Computing.Ascii.{ascii}
-use Rattle.defs.specs.Computing.Text.{decimal, spaced, line}
-
--- `line`, of a word that is bytes
-abbrev pub lined : List ℕ → List ℕ → List ℕ
-lined word ns = word ++ (spaced ns ++ (10 ∷ []))
-
--- what follows the ordinal, from the four words of the output
-unfoldable pub fateLine : ℕ → ℕ → ℕ → ℕ → List ℕ
-fateLine n t c h =
-    let placed = line " placed" (t ∷ c ∷ h ∷ []) in
-    let refused = line " refused" (n ∷ []) in
-    cond (eqb n 0) placed refused
-
-unfoldable pub fourLine : ℕ → ℕ → ℕ → ℕ → ℕ → List ℕ
-fourLine k n t c h = decimal k ++ fateLine n t c h
+use Rattle.defs.specs.Computing.Text.{line}
+use Rattle.layoutlines.specs.Line.{fourLine, totalsLine}
 
 -- the lines of so many entries, from entry i on, which has ordinal i + 1
 unfoldable pub fourLines : List ℕ → ℕ → ℕ → List ℕ
@@ -36,9 +20,6 @@ pub record EntriesFit (out : List ℕ) (at : ℕ) (ws : List ℕ) (count : ℕ) 
   pub few : count ≤ mostPieces
   pub words : 4 * count ≤ length ws
   pub room : at + 31 * count ≤ length out
-
-unfoldable pub totalsLine : Totals → List ℕ
-totalsLine t = ascii "used" ++ (spaced (t .used ∷ []) ++ line " placed" (t .placed ∷ []))
 
 unfoldable pub laidLines : Figures → List ℕ → ℕ → Totals → List ℕ
 laidLines f ws count t =

@@ -1,45 +1,10 @@
 // The lines of a layout, as bytes of a buffer.
 
-ghost use mathlib.Core.List.{[], _∷_};
-ghost use Prim.Native.Nat.{_+_, _*_, _≤_};
-ghost use lib.ListN.{length};
-ghost use Rattle.defs.specs.Computing.Text.{line};
+ghost use Prim.Native.Nat.{_+_, _*_};
 ghost use Rattle.words.specs.Put.{Put};
-ghost use Rattle.layout.specs.Lines.{lined, fateLine, fourLine, fourLines, totalsLine, laidLines, EntriesFit, LaidFits};
+ghost use Rattle.layout.specs.Lines.{fourLines, laidLines, EntriesFit, LaidFits};
 use defs::Figures;
-use defs::Refusal;
 use defs::Totals;
-
-// A word with the numbers after it, to the end of the line.
-fn put_line(out: &mut [u8], at: usize, word: &[u8], numbers: &[u16]) -> usize
-    requires { ⌜ at + length (now word) + 6 * length (now numbers) + 1 ≤ length (now out) ⌝ }
-    ensures { λ r. ⌜ Put (now (out .entry)) (now (out .exit)) at (lined (now (word .entry)) (now (numbers .entry))) r ⌝ }
-{
-    let a = print::put(out, at, word);
-    let b = print::put_spaced(out, a, numbers);
-    out[b] = b'\n';
-    b + 1
-}
-
-// What a line says after the ordinal: a placed piece has 0 and its position, a refused one its number.
-fn put_fate(out: &mut [u8], at: usize, n: u16, t: u16, c: u16, h: u16) -> usize
-    requires { ⌜ at + 26 ≤ length (now out) ⌝ }
-    ensures { λ r. ⌜ Put (now (out .entry)) (now (out .exit)) at (fateLine n t c h) r ⌝ }
-{
-    if n == 0 {
-        return put_line(out, at, b" placed", &[t, c, h]);
-    }
-    put_line(out, at, b" refused", &[n])
-}
-
-// The line of an entry, from its four words of the output.
-fn put_entry(out: &mut [u8], at: usize, ordinal: u16, n: u16, t: u16, c: u16, h: u16) -> usize
-    requires { ⌜ at + 31 ≤ length (now out) ⌝ }
-    ensures { λ r. ⌜ Put (now (out .entry)) (now (out .exit)) at (fourLine ordinal n t c h) r ⌝ }
-{
-    let a = print::put_decimal(out, at, ordinal);
-    put_fate(out, a, n, t, c, h)
-}
 
 // The lines of `count` entries.
 fn put_entries(out: &mut [u8], at: usize, words: &[u16], count: usize) -> usize
@@ -50,7 +15,7 @@ fn put_entries(out: &mut [u8], at: usize, words: &[u16], count: usize) -> usize
     let mut to = at;
     while i < count {
         let j = numbers::ENTRY_WORDS * i;
-        to = put_entry(
+        to = layoutlines::put_entry(
             out,
             to,
             (i + 1) as u16,
@@ -64,29 +29,12 @@ fn put_entries(out: &mut [u8], at: usize, words: &[u16], count: usize) -> usize
     to
 }
 
-// The last line.
-fn put_totals(out: &mut [u8], at: usize, t: Totals) -> usize
-    requires { ⌜ at + 24 ≤ length (now out) ⌝ }
-    ensures { λ r. ⌜ Put (now (out .entry)) (now (out .exit)) at (totalsLine t) r ⌝ }
-{
-    let a = print::put(out, at, b"used");
-    let b = print::put_spaced(out, a, &[t.used]);
-    put_line(out, b, b" placed", &[t.placed])
-}
-
 // What is printed of a job that is laid.
 pub fn put_laid(out: &mut [u8], f: Figures, words: &[u16], count: usize, t: Totals) -> usize
     requires { ⌜ LaidFits (now out) (now words) count ⌝ }
     ensures { λ r. ⌜ Put (now (out .entry)) (now (out .exit)) 0 (laidLines f (now (words .entry)) count t) r ⌝ }
 {
-    let a = put_line(out, 0, b"strip", &[f.width, f.resolution, f.columns]);
+    let a = layoutlines::put_line(out, 0, b"strip", &[f.width, f.resolution, f.columns]);
     let b = put_entries(out, a, words, count);
-    put_totals(out, b, t)
-}
-
-pub fn put_refused(out: &mut [u8], f: Refusal) -> usize
-    requires { ⌜ 24 ≤ length (now out) ⌝ }
-    ensures { λ r. ⌜ Put (now (out .entry)) (now (out .exit)) 0 (line "job refused" (f .number ∷ f .ordinal ∷ [])) r ⌝ }
-{
-    put_line(out, 0, b"job refused", &[f.number, f.ordinal])
+    layoutlines::put_totals(out, b, t)
 }

@@ -14,10 +14,10 @@ pub const STRIP: usize = 20100;
 pub fn strip_words(sheet: &[u8]) -> usize
     ensures { λ n. ⌜ StripWords (now (sheet .entry)) n ⌝ }
 {
-    if sheet.len() < records::FRONT_BYTES {
+    if sheet.len() < fields::FRONT_BYTES {
         return 0;
     }
-    let columns = records::number(sheet, records::COLUMNS);
+    let columns = fields::number(sheet, fields::COLUMNS);
     if limits::MOST_COLUMNS < columns {
         return 0;
     }

@@ -10,7 +10,7 @@ use tokens::fault;
 use tokens::fault::Fault;
 
 // The most bytes of a text.
-pub const MOST_TEXT: usize = 262144;
+const MOST_TEXT: usize = 262144;
 
 const MOST_LINES: u16 = 65535;
 

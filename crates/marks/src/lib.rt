@@ -65,12 +65,8 @@ fn run_at(runs: &[u16], i: u32) -> Run {
 
 // The run whose middle row the ordinal stands in: in a bent outline the middle of its bounds may be outside.
 fn best_run(runs: &[u16], count: u32, middle: u16, r: u16) -> Run {
-    let mut best = Run {
-        column: 0,
-        low: 0,
-        high: 0,
-    };
-    let mut i: u32 = 0;
+    let mut best = run_at(runs, 0);
+    let mut i: u32 = 1;
     while i < count {
         best = better(best, run_at(runs, i), middle, r);
         i += 1;

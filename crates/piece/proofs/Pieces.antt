@@ -14,7 +14,8 @@ use Rattle.tables.proofs.Copies.{NoneBefore}
 use Rattle.asked.proofs.InOrder.{Ordered}
 use Rattle.sheets.proofs.Asking.{asked, not-zero}
 use Rattle.sheets.proofs.Chains.{Ill}
-use Rattle.records.specs.Records.{recordNumber, nextVertex, Gathered}
+use Rattle.reader.specs.Records.{recordNumber}
+use Rattle.records.specs.Records.{nextVertex, Gathered}
 use Rattle.records.proofs.Copies.{outline-is}
 use Rattle.cutlist.specs.Pieces.{PieceAt}
 use Rattle.cutlist.proofs.Words.{not-ill}

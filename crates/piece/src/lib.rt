@@ -157,7 +157,7 @@ pub fn lay_piece(
         (now (out .entry)) (now (out .exit)) (pieceOf (now (sheet .entry)) at .outline) (g .width) (g .resolution) (g .columns) q
         (pieceOf (now (sheet .entry)) at .mask) (length (now (work .entry))) t r ⌝ }
 {
-    let piece = records::visit(sheet, v + at);
+    let piece = reader::visit(sheet, v + at);
     let mut words = [0u16; numbers::MOST_WORDS];
     match records::gather(sheet, v, piece.first, &mut words) {
         Chain::Whole(n) => {

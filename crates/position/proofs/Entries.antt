@@ -22,8 +22,8 @@ use Rattle.tables.proofs.Flats.{count-is}
 use Rattle.tables.proofs.PieceWords.{piece-runs}
 use Rattle.best.specs.Choice.{Kept}
 use Rattle.best.proofs.Turns.{stands}
-use Rattle.enter.specs.declared.Entry.{Entry}
-use Rattle.enter.specs.Columns.{Old, Fits}
+use Rattle.columnentry.specs.declared.Entry.{Entry}
+use Rattle.columnentry.specs.Columns.{Old, Fits}
 use Rattle.enter.specs.Enters.{Entered, TooMany}
 use Rattle.position.specs.Table.{Tabled, Enterable, EntersAt}
 

@@ -73,7 +73,7 @@ fn enter_at(
     ensures { λ a. ⌜ EntersAt (now (first .entry)) (now (lows .entry)) (now (highs .entry)) (now (first2 .exit)) (now (lows2 .exit)) (now (highs2 .exit)) (now (o .entry)) (g .width) (g .resolution) (g .columns) q p a ⌝ }
 {
     let k = stand_runs(o, b, p.turn, g.resolution, s, work);
-    let at = enter::Entry {
+    let at = columnentry::Entry {
         columns: g.columns as usize,
         width: g.width,
         most: q,

@@ -24,7 +24,8 @@ use Rattle.sheets.proofs.Asking.{asked, not-zero, first-none}
 use Rattle.sheets.proofs.Answers.{said, passed, figuresOf, read-grants}
 use Rattle.records.specs.Records.{PiecesIll}
 use Rattle.cutlist.specs.Pieces.{VertexEnds, AllEnd, end-none, end-more, ChainEnds, PiecesRoom}
-use Rattle.reads.specs.Steps.{FirstRefused, Begun, Counted, Passed, fourthOf, JobRefused}
+use Rattle.pieceno.specs.Refused.{FirstRefused}
+use Rattle.reads.specs.Steps.{Begun, Counted, Passed, fourthOf, JobRefused}
 use Rattle.reads.specs.declared.Strip.{Strip}
 
 -- what was read for 3

@@ -3,30 +3,18 @@
 use mathlib.Core.Path.{_≡_}
 use mathlib.Core.Bool.{Bool, true}
 use mathlib.Core.List.{List}
-use mathlib.Core.Option.{none, some}
+use mathlib.Core.Option.{some}
 use Prim.Native.Nat.{ℕ}
 use lib.ListN.{length}
 use Rattle.defs.specs.Meaning.Sheet.{sheetW, sheetR, sheetN}
 use Rattle.defs.specs.Computing.Words.{limitsb, lengthb}
 use Rattle.defs.specs.Computing.Calls.{refusal}
-use Rattle.defs.specs.Computing.Sheets.{q1b, q2b, q6b, pieceRecords, sheetPieceNo, firstNo, sheetNo}
-use Rattle.reads.specs.declared.No.{No}
-use Rattle.reads.specs.declared.No.the-variants.{Pass, At}
+use Rattle.defs.specs.Computing.Sheets.{q1b, q2b, q6b, pieceRecords, sheetNo}
 use Rattle.reads.specs.declared.Strip.{Strip}
 use Rattle.reads.specs.declared.Strip.the-variants.{NotLent, Words}
 use Rattle.reads.specs.declared.Job.{Job}
 use Rattle.reads.specs.declared.Job.the-variants.{Pieces, No as Refused}
-
-pub record NoneRefused (b : List ℕ) : Type 0 where
-  pub is : firstNo (sheetPieceNo b) 1 (pieceRecords b) ≡ none
-
-pub record FirstRefused (b : List ℕ) (n k : ℕ) : Type 0 where
-  pub is : firstNo (sheetPieceNo b) 1 (pieceRecords b) ≡ some (refusal n k)
-
--- "7 to 11 piece by piece": the first piece with a "no"
-abbrev pub Asked : List ℕ → No → Type 0
-Asked b Pass = NoneRefused b
-Asked b (At n k) = FirstRefused b n k
+use Rattle.pieceno.specs.Refused.{NoneRefused}
 
 -- 1 to 3 are passed
 pub record Begun (b : List ℕ) : Type 0 where

@@ -2,59 +2,17 @@
 
 ghost use mathlib.Core.Bool.{true};
 ghost use mathlib.Core.Path.{_≡_};
-ghost use Prim.Native.Nat.{_+_, _≤_};
+ghost use Prim.Native.Nat.{_≤_};
 ghost use lib.ListN.{length};
-ghost use Rattle.defs.specs.Meaning.Sheet.{sheetR, sheetN};
-ghost use Rattle.defs.specs.Computing.Sheets.{sheetPieceNo, ReadStep};
-ghost use Rattle.cutlist.specs.Pieces.{PieceAt, ChainEnds};
+ghost use Rattle.defs.specs.Meaning.Sheet.{sheetN};
+ghost use Rattle.defs.specs.Computing.Sheets.{ReadStep};
 ghost use Rattle.sheets.proofs.Answers.{figuresOf};
-ghost use Rattle.reads.specs.Steps.{Asked, Begun, Counted, Passed, fourthOf, JobAsked};
+ghost use Rattle.reads.specs.Steps.{Begun, Counted, Passed, fourthOf, JobAsked};
 use defs::Figures;
 use defs::Reading;
 use defs::Refusal;
+use pieceno::No;
 use records::Chain;
-
-// The first of questions 7 to 11 that gets "no" for piece record `at`, else 0. The outline is lent from a local.
-fn piece_no(sheet: &[u8], v: usize, at: usize) -> u16
-    requires { ⌜ PieceAt (now sheet) v at ⌝ ∗ ⌜ 1 ≤ sheetR (now sheet) ⌝ }
-    ensures { λ r. ⌜ r ≡ sheetPieceNo (now (sheet .entry)) at ⌝ }
-{
-    let piece = records::visit(sheet, v + at);
-    let mask = piece.second;
-    let mut words = [0u16; numbers::MOST_WORDS];
-    match records::gather(sheet, v, piece.first, &mut words) {
-        Chain::Whole(n) => {
-            let e = 2 * n;
-            asked::outline_no(&words[..e], checks::nine(mask), mask)
-        }
-        Chain::Broken => 7,
-    }
-}
-
-pub enum No {
-    Pass,
-    At(u16, u16),
-}
-
-// Questions 7 to 11, piece by piece: the first that gets "no", with the piece's place in the chain.
-fn first_no(sheet: &[u8], v: usize) -> No
-    requires { ⌜ ChainEnds (now sheet) v ⌝ ∗ ⌜ 1 ≤ sheetR (now sheet) ⌝ }
-    ensures { λ a. ⌜ Asked (now (sheet .entry)) a ⌝ }
-{
-    let mut at = records::number(sheet, records::FIRST_PIECE) as usize;
-    let mut left = records::MOST_PIECES;
-    let mut k: u16 = 1;
-    while 0 < at {
-        let n = piece_no(sheet, v, at);
-        if n != 0 {
-            return No::At(n, k);
-        }
-        at = records::visit(sheet, v + at).next as usize;
-        left -= 1;
-        k += 1;
-    }
-    No::Pass
-}
 
 fn refused(number: u16, ordinal: u16) -> Reading
     ensures { λ a. ⌜ a ≡ Reading.Refused (record { number = number; ordinal = ordinal }) ⌝ }
@@ -71,9 +29,9 @@ pub fn figures_of(sheet: &[u8]) -> Figures
     ensures { λ f. ⌜ f ≡ figuresOf (now (sheet .entry)) ⌝ }
 {
     Figures {
-        width: records::number(sheet, records::WIDTH),
-        resolution: records::number(sheet, records::RESOLUTION),
-        columns: records::number(sheet, records::COLUMNS),
+        width: fields::number(sheet, fields::WIDTH),
+        resolution: fields::number(sheet, fields::RESOLUTION),
+        columns: fields::number(sheet, fields::COLUMNS),
     }
 }
 
@@ -104,8 +62,8 @@ fn ask_pieces(sheet: &[u8], count: usize) -> Job
     requires { ⌜ Counted (now sheet) count ⌝ }
     ensures { λ a. ⌜ JobAsked (now (sheet .entry)) true a ⌝ }
 {
-    let v = records::number(sheet, records::VERTICES) as usize;
-    match first_no(sheet, v) {
+    let v = fields::number(sheet, fields::VERTICES) as usize;
+    match pieceno::first_no(sheet, v) {
         No::Pass => Job::Pieces(count),
         No::At(number, ordinal) => Job::No(number, ordinal),
     }
@@ -126,10 +84,10 @@ fn ask_chain(sheet: &[u8]) -> Job
 pub fn ask(sheet: &[u8], strip: Strip) -> Job
     ensures { λ a. ⌜ JobAsked (now (sheet .entry)) (fourthOf strip (sheetN (now (sheet .entry)))) a ⌝ }
 {
-    if !records::begins(sheet) {
+    if !fields::begins(sheet) {
         return Job::No(1, 0);
     }
-    if !records::fits(sheet) {
+    if !fields::fits(sheet) {
         return Job::No(2, 0);
     }
     let f = figures_of(sheet);
@@ -147,7 +105,7 @@ fn read_list(sheet: &[u8], count: usize, out: &mut [u16]) -> Reading
     requires { ⌜ Passed (now sheet) count ⌝ }
     ensures { λ a. ⌜ ReadStep (now (sheet .entry)) (now (out .entry)) a (now (out .exit)) ⌝ }
 {
-    let v = records::number(sheet, records::VERTICES) as usize;
+    let v = fields::number(sheet, fields::VERTICES) as usize;
     let n = cutlist::list_words(sheet, v);
     if out.len() < n {
         return refused(15, 0);

@@ -7,25 +7,11 @@ use native.Mathlib.Omega.{arith}
 use native.Mathlib.Numerals.{add-one}
 use lib.ListN.{length, getD, take, drop, length-drop}
 use lib.Seq.{sets, length-sets, drop-cons}
-use borrow.Author.Tests.{le-leb, lt-leb}
-use Rattle.defs.specs.Computing.Sheets.{bytesOf, recordBytes, outlineBytes}
+use borrow.Author.Tests.{lt-leb}
+use Rattle.defs.specs.Computing.Sheets.{recordBytes, outlineBytes}
 use Rattle.laws.proofs.Stores.{sets-append}
-use Rattle.recordbytes.specs.Fits.{linkOf, OutlineFits}
-
-pub three-numbers : (o o₁ o₂ o₃ : List ℕ) (to x y z : ℕ) → o₁ ≡ sets o to (bytesOf x) → o₂ ≡ sets o₁ (to + 2) (bytesOf y) →
-    o₃ ≡ sets o₂ (to + 4) (bytesOf z) → o₃ ≡ sets o to (recordBytes x y z)
-three-numbers o o₁ o₂ o₃ to x y z e f g =
-    let i : to + 2 ≡ suc (suc to) = omega arith in
-    let j : to + 4 ≡ suc (suc (suc (suc to))) = omega arith in
-    rw (g, f, e, i, j)
-
-pub link-end : (r left : ℕ) → left ≤ 1 → 0 ≡ linkOf r left
-unfolding linkOf
-link-end r left l = rw (le-leb left 1 l)
-
-pub link-on : (r left : ℕ) → 1 < left → r + 1 ≡ linkOf r left
-unfolding linkOf
-link-on r left l = rw (lt-leb left 1 l)
+use Rattle.onerecord.specs.Link.{linkOf}
+use Rattle.recordbytes.specs.Fits.{OutlineFits}
 
 -- one vertex more
 outline-step : (v x y l : ℕ) (L : List ℕ) → 2 * l ≤ length L →

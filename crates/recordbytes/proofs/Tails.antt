@@ -11,7 +11,8 @@ use Rattle.defs.specs.Meaning.Sheet.{Piece}
 use Rattle.defs.specs.Computing.Sheets.{recordBytes, outlineBytes, verticesBytes, piecesBytes, verticesIn, listPiece, listTails}
 use Rattle.laws.proofs.Stores.{sets-append}
 use Rattle.sheets.proofs.PiecesBack.{outline-bytes-long}
-use Rattle.recordbytes.specs.Fits.{linkOf, OutlineFits, Complete, a-piece, ListFits}
+use Rattle.onerecord.specs.Link.{linkOf}
+use Rattle.recordbytes.specs.Fits.{OutlineFits, Complete, a-piece, ListFits}
 
 -- the pieces of the list from word a on
 abbrev pub piecesFrom : List ℕ → ℕ → ℕ → List Piece

@@ -1,14 +1,8 @@
 -- What must hold of a list and an output before records are written. Assumes nothing.
-use mathlib.Core.Bool.{cond}
 use mathlib.Core.List.{List, map}
 use Prim.Native.Nat.{ℕ, suc, _+_, _*_, _≤_, _<_}
-use lib.Dec.{leb}
 use lib.ListN.{length, getD, drop}
 use Rattle.defs.specs.Computing.Sheets.{verticesIn, listPiece, listTails}
-
--- "next": the following number, 0 at an end
-unfoldable pub linkOf : ℕ → ℕ → ℕ
-linkOf r left = cond (leb left 1) 0 (r + 1)
 
 pub record OutlineFits (list : List ℕ) (from count first : ℕ) (out : List ℕ) (to : ℕ) : Type 0 where
   pub in-list : from + 2 * count ≤ length list

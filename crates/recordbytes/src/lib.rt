@@ -5,26 +5,8 @@ ghost use mathlib.Core.List.{map};
 ghost use Prim.Native.Nat.{_+_, _*_, _≤_, _<_};
 ghost use lib.ListN.{length, take, drop};
 ghost use lib.Seq.{sets};
-ghost use Rattle.defs.specs.Computing.Sheets.{recordBytes, outlineBytes, verticesBytes, piecesBytes, listPiece, listTails};
-ghost use Rattle.recordbytes.specs.Fits.{linkOf, OutlineFits, ListFits};
-
-// One record of three numbers.
-fn set_record(out: &mut [u8], to: usize, x: u16, y: u16, z: u16)
-    requires { ⌜ to + 6 ≤ length (now out) ⌝ }
-    ensures { λ _. ⌜ now (out .exit) ≡ sets (now (out .entry)) to (recordBytes x y z) ⌝ }
-{
-    records::set_number(out, to, x);
-    records::set_number(out, to + 2, y);
-    records::set_number(out, to + 4, z);
-}
-
-// The next of record r, where `left` records of its chain are left with it.
-fn link(r: usize, left: usize) -> u16
-    requires { ⌜ r + left < 65537 ⌝ }
-    ensures { λ n. ⌜ n ≡ linkOf r left ⌝ }
-{
-    if left <= 1 { 0 } else { (r + 1) as u16 }
-}
+ghost use Rattle.defs.specs.Computing.Sheets.{outlineBytes, verticesBytes, piecesBytes, listPiece, listTails};
+ghost use Rattle.recordbytes.specs.Fits.{OutlineFits, ListFits};
 
 // The vertex records of an outline of `count` vertices at place `from` of the list; the first has number `first`.
 fn put_outline(list: &[u16], from: usize, count: usize, first: usize, out: &mut [u8], to: usize)
@@ -36,11 +18,11 @@ fn put_outline(list: &[u16], from: usize, count: usize, first: usize, out: &mut 
     let mut v = first;
     let mut t = to;
     while 0 < left {
-        set_record(out, t, list[a], list[a + 1], link(v, left));
+        onerecord::set_record(out, t, list[a], list[a + 1], onerecord::link(v, left));
         a += 2;
         left -= 1;
         v += 1;
-        t += records::RECORD_BYTES;
+        t += fields::RECORD_BYTES;
     }
 }
 
@@ -52,14 +34,14 @@ pub fn put_vertices(list: &[u16], count: usize, out: &mut [u8])
     let mut a: usize = 1;
     let mut left = count;
     let mut v: usize = 1;
-    let mut t = records::FRONT_BYTES;
+    let mut t = fields::FRONT_BYTES;
     while 0 < left {
         let m = list[a] as usize;
         put_outline(list, a + 2, m, v, out, t);
         a += 2 + 2 * m;
         left -= 1;
         v += m;
-        t += records::RECORD_BYTES * m;
+        t += fields::RECORD_BYTES * m;
     }
 }
 
@@ -75,11 +57,11 @@ pub fn put_pieces(list: &[u16], count: usize, out: &mut [u8], to: usize)
     let mut t = to;
     while 0 < left {
         let m = list[a] as usize;
-        set_record(out, t, v as u16, list[a + 1], link(r, left));
+        onerecord::set_record(out, t, v as u16, list[a + 1], onerecord::link(r, left));
         a += 2 + 2 * m;
         left -= 1;
         r += 1;
         v += m;
-        t += records::RECORD_BYTES;
+        t += fields::RECORD_BYTES;
     }
 }

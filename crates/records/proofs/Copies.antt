@@ -1,26 +1,23 @@
--- A number stored in its bytes, the piece chain, and a vertex chain copied into words: what is left to copy gives the whole.
+-- The piece chain, and a vertex chain copied into words: what is left to copy gives the whole.
 -- Assumes nothing.
 use mathlib.Core.Path.{_≡_, refl, sym, ap, _∙_}
 use mathlib.Core.List.{List, [], _∷_}
 use mathlib.Core.Bool.{true, false}
-use Prim.Native.Nat.{ℕ, suc, _+_, _-_, _*_, _/_, _%_, _≤_, _<_}
+use Prim.Native.Nat.{ℕ, suc, _+_, _-_, _*_, _≤_, _<_}
 use native.Mathlib.Omega.{arith}
-use native.Mathlib.Numerals.{add-one}
 use lib.ListN.{length, set, take}
 use lib.Seq.{sets, sets-eq, length-sets, take-at}
 use Rattle.defs.specs.Meaning.Limits.{mostVertices, mostPieces}
 use Rattle.defs.specs.Meaning.Sheet.{sheetV, sheetP, firstPiece, pieceNumber, vertexNumber, vertexWords}
 use Rattle.defs.specs.Computing.Test.{chainBy, endsBy}
-use Rattle.defs.specs.Computing.Sheets.{bytesOf, q6b, pieceRecords, pieceOf, verticesOf}
+use Rattle.defs.specs.Computing.Sheets.{q6b, pieceRecords, pieceOf, verticesOf}
 use Rattle.laws.proofs.Walks.{chain-step, chain-zero}
 use Rattle.laws.proofs.SheetChains.{length-vertexWords}
 use Rattle.sheets.proofs.Chains.{Ends, Ill, Walk, walk-start, walk-next, walk-end, chain-more}
 use Rattle.records.specs.declared.Chain.{Chain}
 use Rattle.records.specs.declared.Chain.the-variants.{Whole, Broken}
-use Rattle.records.specs.Records.{recordNumber, Chains, PieceChains, nextVertex, Gathered}
-
-pub two-bytes : (b : List ℕ) (at n : ℕ) → set (set b at (n % 256)) (at + 1) (n / 256) ≡ sets b at (bytesOf n)
-two-bytes b at n = rw add-one
+use Rattle.reader.specs.Records.{recordNumber}
+use Rattle.records.specs.Records.{Chains, PieceChains, nextVertex, Gathered}
 
 -- question 6
 pub piece-chains : (b : List ℕ) (v p f : ℕ) (r : Chain) → v ≡ sheetV b → p ≡ sheetP b → f ≡ firstPiece b →

@@ -1,3 +1,2 @@
-pub mod Firsts
 pub mod Copies
 pub mod Refusals

@@ -1,26 +1,18 @@
--- The records of a sheet, numbered through, and what a walk along a chain of them answers.
+-- What a walk along a chain of the records of a sheet answers.
 -- Assumes nothing.
 use mathlib.Core.Path.{_≡_}
 use mathlib.Core.Bool.{true, false}
 use mathlib.Core.List.{List}
-use Prim.Native.Nat.{ℕ, _+_, _*_, _≤_}
+use Prim.Native.Nat.{ℕ, _≤_}
 use lib.ListN.{length}
 use lib.Seq.{sets}
 use Rattle.defs.specs.Meaning.Limits.{mostVertices}
-use Rattle.defs.specs.Meaning.Sheet.{numberAt, vertexNumber, vertexWords}
+use Rattle.defs.specs.Meaning.Sheet.{vertexNumber, vertexWords}
 use Rattle.defs.specs.Computing.Test.{chainBy}
 use Rattle.defs.specs.Computing.Sheets.{q6b, pieceRecords}
 use Rattle.sheets.proofs.Chains.{Ends, Ill}
-use Rattle.records.specs.declared.Numbers.{Numbers}
 use Rattle.records.specs.declared.Chain.{Chain}
 use Rattle.records.specs.declared.Chain.the-variants.{Whole, Broken}
-
--- number i (0, 1 or 2) of record r; `vertexNumber b r i` is this, and `pieceNumber b r i` is `recordNumber b (sheetV b + r) i`
-abbrev pub recordNumber : List ℕ → ℕ → ℕ → ℕ
-recordNumber b r i = numberAt b (10 + 6 * r + 2 * i)
-
-abbrev pub numbersAt : List ℕ → ℕ → Numbers
-numbersAt b r = record { first = recordNumber b r 0; second = recordNumber b r 1; next = recordNumber b r 2 }
 
 abbrev pub Chains : (next : ℕ → ℕ) (most n r : ℕ) → Chain → Type 0
 Chains next most n r (Whole k) = Ends next most n r k

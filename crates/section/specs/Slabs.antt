@@ -8,11 +8,6 @@ use Rattle.defs.specs.Meaning.Outline.{sides}
 use Rattle.slabs.specs.Slab.{Neat}
 use Rattle.entries.specs.Edges.{Loaded, NextAt, Rising}
 
--- where a slab from a may end: not beyond the next vertex
-pub record CutAt (v : List ℕ) (a n r : ℕ) : Type 0 where
-  pub more : a < r
-  pub next : NextAt v a n r
-
 -- the entries of a neat slab are loaded, in the order of their heights at either side
 pub record Kept (v : List ℕ) (a b m : ℕ) (h0 h1 w : List ℕ) : Type 0 where
   pub neat : Neat v a b

@@ -9,7 +9,7 @@ use Rattle.defs.specs.Computing.Cells.{Rows}
 use Rattle.defs.specs.Computing.Sheets.{pieceRecords, sheetPieces}
 use Rattle.defs.specs.Computing.Lay.{entriesFrom, heldFrom, placedIn, usedIn, entriesWords}
 use Rattle.cutlist.specs.Pieces.{ChainEnds}
-use Rattle.reads.specs.Steps.{NoneRefused}
+use Rattle.pieceno.specs.Refused.{NoneRefused}
 use Rattle.fates.specs.declared.Tally.{Tally}
 use Rattle.piece.specs.Boards.{heldBy, Boards}
 

@@ -26,7 +26,7 @@ pub fn lay_chain(
         (now (first .exit)) (now (lows .exit)) (now (highs .exit)) (now (first2 .exit)) (now (lows2 .exit)) (now (highs2 .exit))
         (now (out .entry)) (now (out .exit)) (g .width) (g .resolution) (g .columns) q (length (now (work .entry))) t ⌝ }
 {
-    let mut at = records::number(sheet, records::FIRST_PIECE) as usize;
+    let mut at = fields::number(sheet, fields::FIRST_PIECE) as usize;
     let mut last = at;
     let mut left = records::MOST_PIECES;
     let mut t = Tally {
@@ -56,7 +56,7 @@ pub fn lay_chain(
             work,
         );
         last = at;
-        at = records::visit(sheet, v + at).next as usize;
+        at = reader::visit(sheet, v + at).next as usize;
         left -= 1;
     }
     t

@@ -26,12 +26,12 @@ fn put_front(w: u16, r: u16, n: u16, first: u16, v: u16, p: u16, out: &mut [u8])
     ensures { λ _. ⌜ now (out .exit) ≡ sets (now (out .entry)) 0 (frontBytes w r n first v p) ⌝ }
 {
     put_mark(out);
-    records::set_number(out, records::WIDTH, w);
-    records::set_number(out, records::RESOLUTION, r);
-    records::set_number(out, records::COLUMNS, n);
-    records::set_number(out, records::FIRST_PIECE, first);
-    records::set_number(out, records::VERTICES, v);
-    records::set_number(out, records::PIECES, p);
+    fields::set_number(out, fields::WIDTH, w);
+    fields::set_number(out, fields::RESOLUTION, r);
+    fields::set_number(out, fields::COLUMNS, n);
+    fields::set_number(out, fields::FIRST_PIECE, first);
+    fields::set_number(out, fields::VERTICES, v);
+    fields::set_number(out, fields::PIECES, p);
 }
 
 // The sheet of a list that passes and has v vertices. Every byte past it is kept.
@@ -46,6 +46,6 @@ pub fn put_sheet(w: u16, r: u16, n: u16, list: &[u16], v: usize, out: &mut [u8])
         list,
         p as usize,
         out,
-        records::FRONT_BYTES + records::RECORD_BYTES * v,
+        fields::FRONT_BYTES + fields::RECORD_BYTES * v,
     );
 }

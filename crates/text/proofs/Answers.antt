@@ -25,7 +25,8 @@ use Rattle.sheets.proofs.Asking.{asked, some-none}
 use Rattle.sheets.proofs.Passing.{few-read}
 use Rattle.sheets.proofs.Answers.{said, figuresOf, not-refused}
 use Rattle.words.specs.Put.{Put}
-use Rattle.layout.specs.Lines.{fourLines, totalsLine, laidLines, LaidFits}
+use Rattle.layoutlines.specs.Line.{totalsLine}
+use Rattle.layout.specs.Lines.{fourLines, laidLines, LaidFits}
 use Rattle.lent.specs.Strips.{StripFor, exact, early, StripWords}
 use Rattle.text.specs.Lent.{Answered, Passes, Shows}
 use Rattle.print.proofs.Puts.{put-long, spaced-few}

@@ -34,7 +34,7 @@ fn put_answer(sheet: &[u8], words: &[u16], a: Laying, out: &mut [u8]) -> usize
             let f = reads::figures_of(sheet);
             layout::put_laid(out, f, words, pieces_of(sheet), t)
         }
-        Laying::Refused(r) => layout::put_refused(out, r),
+        Laying::Refused(r) => layoutlines::put_refused(out, r),
     }
 }
 

@@ -32,8 +32,8 @@ fn write_sheet(w: u16, r: u16, n: u16, list: &[u16], v: usize, out: &mut [u8]) -
     requires { ⌜ Passed w r n (now list) v ⌝ }
     ensures { λ a. ⌜ WriteStep w r n (now (list .entry)) (now (out .entry)) a (now (out .exit)) ⌝ }
 {
-    let size = records::FRONT_BYTES + records::RECORD_BYTES * (v + list[0] as usize);
-    if records::MOST_BYTES < size {
+    let size = fields::FRONT_BYTES + fields::RECORD_BYTES * (v + list[0] as usize);
+    if fields::MOST_BYTES < size {
         return refused(2, 0);
     }
     if out.len() < size {

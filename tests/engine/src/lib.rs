@@ -1,6 +1,7 @@
 //! The proved engine as a Rust program calls it, with what the tests and the
 //! benchmarks need beside it: buffers before an unreadable page, the public
-//! outlines, and plain programs to measure against.
+//! outlines, the proved programs as they are run, and plain programs to measure
+//! against.
 
 #![deny(unsafe_code)]
 
@@ -15,6 +16,7 @@ pub mod plain;
 pub mod plain_place;
 pub mod plain_sheet;
 pub mod plain_strip;
+pub mod programs;
 
 pub use calls::{cover, lay, open, place, read, write};
 pub use inner::{decoded, rewrite, well_formed};

@@ -2,43 +2,12 @@
 //! prints beside the text of the reference program.
 
 use engine::data;
+use engine::programs::LAY;
 use reference::figures::{Figures, Piece};
 use reference::generate::outlines::is_sound;
 use reference::generate::{
     any_figures, damaged_sheet, job, sound_pieces, sound_sheet, Job, Random, SheetDamage, SheetPlan,
 };
-use std::io::{ErrorKind, Read, Write};
-use std::path::{Path, PathBuf};
-use std::process::{Command, Stdio};
-
-/// One byte more than a sheet may have; of longer input the program reads no more.
-const MOST_READ: usize = 65_537;
-
-/// What `rt check lay` builds.
-fn program() -> PathBuf {
-    Path::new(env!("CARGO_MANIFEST_DIR")).join("../../target/bin/lay")
-}
-
-/// What the program prints for this input, all of it by the end.
-fn printed(input: &[u8]) -> String {
-    let mut child = Command::new(program())
-        .stdin(Stdio::piped())
-        .stdout(Stdio::piped())
-        .spawn()
-        .expect("target/bin/lay runs");
-    let mut stdin = child.stdin.take().expect("piped");
-    match stdin.write_all(input) {
-        // It has ended, and left the rest.
-        Err(error) if error.kind() == ErrorKind::BrokenPipe => assert!(input.len() > MOST_READ),
-        result => result.expect("the program reads"),
-    }
-    drop(stdin);
-    let mut text = String::new();
-    let mut stdout = child.stdout.take().expect("piped");
-    stdout.read_to_string(&mut text).expect("text");
-    assert!(child.wait().expect("it ends").success());
-    text
-}
 
 /// What the program has printed, run by run.
 #[derive(Default)]
@@ -48,7 +17,7 @@ struct Runs {
 
 impl Runs {
     fn run(&mut self, input: &[u8]) -> &str {
-        let text = printed(input);
+        let text = LAY.text(input);
         let shown = &input[..input.len().min(400)];
         assert_eq!(text, reference::lay_text(input), "{shown:?}");
         self.texts.push(text);

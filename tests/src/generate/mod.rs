@@ -8,6 +8,7 @@ pub mod outlines;
 pub mod random;
 pub mod sheets;
 pub mod strips;
+pub mod texts;
 
 pub use jobs::{job, place_calls, sound_piece_of, sound_pieces, sound_pieces_of, Job, PlaceCall};
 pub use lists::{damaged_list, damaged_list_at, sound_list, DamagedList, ListDamage};
@@ -21,6 +22,7 @@ pub use strips::{
     change_words, damaged_strip, empty_strip, random_runs, sound_strip, strip_with, Damage,
     StripFigures,
 };
+pub use texts::{any_job, damaged_text, text_at_limit, text_of_job, TextDamage};
 
 use crate::figures::Figures;
 

@@ -4,7 +4,7 @@ use Prim.Native.Nat.{ℕ, _<_}
 use native.Mathlib.Omega.{arith}
 use borrow.Author.Needs.{needs}
 use borrow.Author.Tests.{not-false, ltb-true}
-use Rattle.records.specs.declared.Numbers.{Numbers}
+use Rattle.reader.specs.declared.Numbers.{Numbers}
 use Rattle.copies.proofs.Alike.{Alike, alike-start, alike-next, alike-end, differ}
 use Rattle.copies.proofs.same_vertices.Statement.{statement}
 use Rattle.copies.proofs.same_vertices.Tie as tie

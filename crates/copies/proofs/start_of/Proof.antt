@@ -2,7 +2,7 @@
 use mathlib.Core.Path.{ap}
 use Prim.Native.Nat.{ℕ}
 use native.Mathlib.Omega.{arith}
-use Rattle.records.specs.declared.Numbers.{Numbers}
+use Rattle.reader.specs.declared.Numbers.{Numbers}
 use Rattle.copies.proofs.Alike.{no-copy, copy-of}
 use borrow.Author.Needs.{needs}
 use Rattle.copies.proofs.start_of.Statement.{statement}

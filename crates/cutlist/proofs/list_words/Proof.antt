@@ -3,7 +3,7 @@ use mathlib.Core.Path.{ap}
 use Prim.Native.Nat.{_<_}
 use native.Mathlib.Omega.{arith}
 use borrow.Author.Needs.{needs}
-use Rattle.records.specs.declared.Numbers.{Numbers}
+use Rattle.reader.specs.declared.Numbers.{Numbers}
 use Rattle.cutlist.proofs.Along.{along-here, along-left, along-at}
 use Rattle.cutlist.proofs.Lists.{Summing, sum-start, sum-ends, sum-next, sum-end}
 use Rattle.cutlist.proofs.list_words.Statement.{statement}

@@ -2,7 +2,7 @@
 use mathlib.Core.Path.{ap}
 use native.Mathlib.Omega.{arith}
 use borrow.Author.Needs.{needs}
-use Rattle.records.specs.declared.Numbers.{Numbers}
+use Rattle.reader.specs.declared.Numbers.{Numbers}
 use Rattle.cutlist.proofs.Words.{ends-few, not-broken, piece-counted}
 use Rattle.cutlist.proofs.piece_words.Statement.{statement}
 use Rattle.cutlist.proofs.piece_words.Tie as tie

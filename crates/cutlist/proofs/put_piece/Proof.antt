@@ -4,7 +4,7 @@ use native.Mathlib.Omega.{arith}
 use lib.ListN.{length, length-set}
 use lib.Seq.{length-take-le, length-sets}
 use borrow.Author.Needs.{needs}
-use Rattle.records.specs.declared.Numbers.{Numbers}
+use Rattle.reader.specs.declared.Numbers.{Numbers}
 use Rattle.records.proofs.Copies.{gathered-long}
 use Rattle.cutlist.proofs.Words.{piece-put, piece-room, copy-room, not-ill}
 use Rattle.cutlist.proofs.put_piece.Statement.{statement}

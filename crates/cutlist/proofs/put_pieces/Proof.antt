@@ -6,7 +6,7 @@ use lib.Seq.{sets}
 use borrow.Author.Needs.{needs}
 use Rattle.defs.specs.Meaning.Sheet.{piecesWords}
 use Rattle.defs.specs.Computing.Sheets.{sheetPieces}
-use Rattle.records.specs.declared.Numbers.{Numbers}
+use Rattle.reader.specs.declared.Numbers.{Numbers}
 use Rattle.cutlist.proofs.Lists.{Listing, list-start, list-fits, list-next, list-end}
 use Rattle.cutlist.proofs.Along.{along-here, along-left, along-at}
 use Rattle.cutlist.proofs.put_pieces.Statement.{statement}

@@ -4,7 +4,7 @@ use Prim.Native.Nat.{_-_, _≤_}
 use mathlib.Core.Path.{_≡_}
 use native.Mathlib.Omega.{arith}
 use lib.ListN.{length, length-set}
-use Rattle.enter.proofs.Adding.{room-left}
+use Rattle.columnentry.proofs.Adding.{room-left}
 use Rattle.enter.proofs.Building.{Building, building-none, building-next}
 use Rattle.enter.proofs.Whole.{too-many, all-entered}
 use borrow.Author.Needs.{needs}

@@ -5,16 +5,19 @@ use Rattle.marks.proofs.best_run.Statement.{statement}
 use Rattle.marks.proofs.best_run.Tie as tie
 
 abbrev Inv-loop : tie.InvT-loop
-Inv-loop runs count middle r best₀ i₀ best i = i ≤ count
+Inv-loop runs count middle r best₀ i₀ best i = 1 ≤ i
 
 abbrev μ-loop : tie.MeasureT-loop
 μ-loop runs count middle r best₀ i₀ best i = count - i
 
+run-at-requires : tie.Need-run-at-requires Inv-loop μ-loop
+run-at-requires c κs = search needs
+
 loop-holds : tie.Need-loop-holds Inv-loop μ-loop
 loop-holds c = search needs
 
-run-at-requires : tie.Need-run-at-requires Inv-loop μ-loop
-run-at-requires c κs = search needs
+run-at-requires-2 : tie.Need-run-at-requires-2 Inv-loop μ-loop
+run-at-requires-2 c κs = search needs
 
 better-requires : tie.Need-better-requires Inv-loop μ-loop
 better-requires c κs = search needs
@@ -37,8 +40,9 @@ best-run-spec =
     (tie.spec
     Inv-loop
     μ-loop
-    loop-holds
     run-at-requires
+    loop-holds
+    run-at-requires-2
     better-requires
     add-i
     loop-less

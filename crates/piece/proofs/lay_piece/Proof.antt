@@ -2,7 +2,7 @@
 use mathlib.Core.Path.{sym, ap}
 use native.Mathlib.Omega.{arith}
 use lib.Seq.{length-take-le}
-use Rattle.records.specs.declared.Numbers.{Numbers}
+use Rattle.reader.specs.declared.Numbers.{Numbers}
 use Rattle.records.proofs.Copies.{gathered-long}
 use Rattle.piece.proofs.Pieces.{not-broken, outline, mask, ordered, none-before}
 use borrow.Author.Needs.{needs}

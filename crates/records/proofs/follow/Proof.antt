@@ -3,8 +3,8 @@ use mathlib.Core.Path.{refl, ap}
 use Prim.Native.Nat.{_<_, _+_}
 use native.Mathlib.Omega.{arith}
 use borrow.Author.Needs.{needs}
-use Rattle.records.specs.declared.Numbers.{Numbers}
-use Rattle.records.specs.Records.{recordNumber}
+use Rattle.reader.specs.declared.Numbers.{Numbers}
+use Rattle.reader.specs.Records.{recordNumber}
 use Rattle.sheets.proofs.Chains.{Walk, walk-start, walk-next, walk-long, walk-past, walk-end}
 use Rattle.records.proofs.follow.Statement.{statement}
 use Rattle.records.proofs.follow.Tie as tie

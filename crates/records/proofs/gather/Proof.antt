@@ -3,7 +3,7 @@ use mathlib.Core.Path.{ap}
 use Prim.Native.Nat.{_<_, _-_}
 use native.Mathlib.Omega.{arith}
 use borrow.Author.Needs.{needs}
-use Rattle.records.specs.declared.Numbers.{Numbers}
+use Rattle.reader.specs.declared.Numbers.{Numbers}
 use Rattle.records.proofs.Copies.{Gathering, gather-start, gather-next, gather-end}
 use Rattle.sheets.proofs.Chains.{walk-long, walk-past}
 use Rattle.records.proofs.gather.Statement.{statement}

@@ -8,7 +8,7 @@ use Rattle.defs.specs.Meaning.Outline.{sides}
 use Rattle.defs.specs.Meaning.Turn.{turned}
 use Rattle.entries.specs.Edges.{Loads}
 use Rattle.entries.proofs.Entries.{all-fit}
-use Rattle.section.specs.Slabs.{CutAt}
+use Rattle.cuts.specs.Cut.{CutAt}
 use Rattle.section.proofs.Cuts.{cut-spanned, cut-turned, cut-shorter, held-tidy, held-unit}
 use borrow.Author.Needs.{needs}
 use Rattle.section.proofs.next_slab.Statement.{statement}

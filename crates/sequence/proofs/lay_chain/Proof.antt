@@ -5,7 +5,7 @@ use native.Mathlib.Omega.{arith}
 use lib.ListN.{length}
 use Rattle.defs.specs.Computing.Sheets.{sheetPieces}
 use Rattle.tables.specs.Flat.{tableOf}
-use Rattle.records.specs.declared.Numbers.{Numbers}
+use Rattle.reader.specs.declared.Numbers.{Numbers}
 use Rattle.cutlist.proofs.Along.{along-here, along-left, along-at}
 use Rattle.sequence.proofs.Going.{Going, wholeFrom, going-start, going-passes, going-few, going-room, going-next, going-end}
 use Rattle.sequence.proofs.Copied.{copy-starts}

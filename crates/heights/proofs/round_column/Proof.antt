@@ -1,0 +1,129 @@
+-- `round_column` meets its contract: no height below the one that is tried is free, and all runs are free there but those that are left. Each
+-- try leaves a run less or goes up, so the tries come to an end.
+-- Assumes nothing.
+use borrow.Author.Needs.{needs}
+use native.Mathlib.Omega.{arith}
+use Prim.Native.Nat.{_+_, _-_, _*_}
+use Rattle.heights.proofs.Goings.{Going, going-start, run-left, going-end, going-stop, going-next, asks, falls}
+use Rattle.heights.proofs.round_column.Statement.{statement}
+use Rattle.heights.proofs.round_column.Tie as tie
+
+abbrev Inv-loop : tie.InvT-loop
+Inv-loop first lows highs runs c start top p y₀ k₀ left₀ y k left = Going first lows highs runs p c top y k left
+
+abbrev μ-loop : tie.MeasureT-loop
+μ-loop first lows highs runs c start top p y₀ k₀ left₀ y k left = (top - y) * p + left
+
+sub-top : tie.Need-sub-top Inv-loop μ-loop
+sub-top c = search needs
+
+loop-holds : tie.Need-loop-holds Inv-loop μ-loop
+loop-holds c = going-start (omega arith)
+
+mul-col : tie.Need-mul-col Inv-loop μ-loop
+mul-col c = search needs
+
+mul-col-2 : tie.Need-mul-col-2 Inv-loop μ-loop
+mul-col-2 c = search needs
+
+shared-slice-read-col : tie.Need-shared-slice-read-col Inv-loop μ-loop
+shared-slice-read-col c = search needs
+
+cast-col : tie.Need-cast-col Inv-loop μ-loop
+cast-col c = omega (arith, c .shared-slice-known5 .given (3 * c .before .before .loop .k))
+
+add-col : tie.Need-add-col Inv-loop μ-loop
+add-col c =
+    let pre = c .before .before .before .before .before .before .before .before .pre in
+    let k = c .before .before .loop .k in
+    let g = c .before .before .loop .inv in
+    omega (arith, pre .0 .piece .wide k (run-left g (omega arith)), pre .1)
+
+mul-settle : tie.Need-mul-settle Inv-loop μ-loop
+mul-settle c = search needs
+
+add-settle : tie.Need-add-settle Inv-loop μ-loop
+add-settle c = search needs
+
+mul-settle-2 : tie.Need-mul-settle-2 Inv-loop μ-loop
+mul-settle-2 c = search needs
+
+shared-slice-read-settle : tie.Need-shared-slice-read-settle Inv-loop μ-loop
+shared-slice-read-settle c = search needs
+
+mul-settle-3 : tie.Need-mul-settle-3 Inv-loop μ-loop
+mul-settle-3 c = search needs
+
+add-settle-2 : tie.Need-add-settle-2 Inv-loop μ-loop
+add-settle-2 c = search needs
+
+mul-settle-4 : tie.Need-mul-settle-4 Inv-loop μ-loop
+mul-settle-4 c = search needs
+
+shared-slice-read-settle-2 : tie.Need-shared-slice-read-settle-2 Inv-loop μ-loop
+shared-slice-read-settle-2 c = search needs
+
+settle-requires : tie.Need-settle-requires Inv-loop μ-loop
+settle-requires c κs =
+    let pre = c .before .before .before .before .before .before .before .before .before .before .pre in
+    let g = c .before .before .before .before .loop .inv in
+    asks (pre .0) g (pre .1 .0) (run-left g (omega arith)) (omega arith) (pre .1 .2)
+
+returns : tie.Need-returns Inv-loop μ-loop
+returns c =
+    let pre = c .before .before .before .before .before .before .before .before .before .before .before .before .pre in
+    let g = c .before .before .before .before .before .before .loop .inv in
+    let among = run-left g (omega arith) in
+    record { none = going-stop (pre .0) (pre .1 .0) among g (c .before .settle .ensures) (omega arith) (omega arith); among = among }
+
+runs-left-requires : tie.Need-runs-left-requires Inv-loop μ-loop
+runs-left-requires c κs = (omega arith, c .before .before .before .before .before .before .loop .inv .few)
+
+next-run-requires : tie.Need-next-run-requires Inv-loop μ-loop
+next-run-requires c κs =
+    let g = c .before .before .before .before .before .before .before .loop .inv in
+    run-left g (omega arith)
+
+loop-less : tie.Need-loop-less Inv-loop μ-loop
+loop-less c =
+    let g = c .before .before .before .before .before .before .before .before .loop .inv in
+    falls _ _ _ _ _ _ (c .before .before .before .settle .ensures .up) (omega arith) (omega arith) (g .few) (c .before .runs-left .ensures)
+
+loop-again : tie.Need-loop-again Inv-loop μ-loop
+loop-again c =
+    let pre = c .before .before .before .before .before .before .before .before .before .before .before .before .before .before .pre in
+    let g = c .before .before .before .before .before .before .before .before .loop .inv in
+    going-next (pre .0) (pre .1 .0) (run-left g (omega arith)) g (c .before .before .before .settle .ensures) (omega arith) (omega arith) (c .before .runs-left .ensures)
+    (c .next-run .ensures)
+
+returns-2 : tie.Need-returns-2 Inv-loop μ-loop
+returns-2 c = going-end (c .before .loop .inv) (omega arith) (omega arith)
+
+pub round-column-spec : {M : Type 1} → statement M
+round-column-spec =
+    tie.close
+    (tie.spec
+    Inv-loop
+    μ-loop
+    sub-top
+    loop-holds
+    mul-col
+    mul-col-2
+    shared-slice-read-col
+    cast-col
+    add-col
+    mul-settle
+    add-settle
+    mul-settle-2
+    shared-slice-read-settle
+    mul-settle-3
+    add-settle-2
+    mul-settle-4
+    shared-slice-read-settle-2
+    settle-requires
+    returns
+    runs-left-requires
+    next-run-requires
+    loop-less
+    loop-again
+    returns-2)

@@ -1,0 +1,2 @@
+pub mod FirstSlab
+pub mod OneColumn

@@ -1,0 +1,272 @@
+//! Program `draw` as it is run: every byte of its picture beside that of the
+//! reference program.
+
+use engine::data;
+use engine::programs::DRAW;
+use reference::figures::{Figures, Piece};
+use reference::generate::outlines::is_sound;
+use reference::generate::{
+    any_figures, damaged_sheet, job, sound_pieces, sound_sheet, Job, Random, SheetDamage, SheetPlan,
+};
+use reference::picture::draw;
+use std::path::{Path, PathBuf};
+
+/// The pictures of some sheets.
+#[derive(Default)]
+struct Pictures {
+    pictures: Vec<String>,
+    /// How many were written larger, as they are, and smaller than their strip.
+    scales: [usize; 3],
+}
+
+impl Pictures {
+    fn draw(&mut self, sheet: &[u8]) -> &str {
+        let picture = DRAW.text(sheet);
+        let expected = draw(sheet);
+        if let Some((drawn, wanted)) = first_difference(&picture, &expected) {
+            panic!("{drawn}\n{wanted}\n{:?}", &sheet[..sheet.len().min(400)]);
+        }
+        if !picture.contains(">job refused ") {
+            self.scales[scale(sheet, &picture)] += 1;
+        }
+        self.pictures.push(picture);
+        &self.pictures[self.pictures.len() - 1]
+    }
+
+    /// So many pictures have this in them.
+    fn with(&self, words: &str) -> usize {
+        let has = |picture: &&String| picture.contains(words);
+        self.pictures.iter().filter(has).count()
+    }
+}
+
+fn first_difference<'a>(one: &'a str, other: &'a str) -> Option<(&'a str, &'a str)> {
+    if one == other {
+        return None;
+    }
+    let mut pairs = one.split('\n').zip(other.split('\n'));
+    Some(pairs.find(|(a, b)| a != b).unwrap_or((one, other)))
+}
+
+/// By how the picture says the strip's width, which it does in 100 times as
+/// many units, in units or in hundredths of them.
+fn scale(sheet: &[u8], picture: &str) -> usize {
+    let width = u32::from(u16::from_le_bytes([sheet[4], sheet[5]]));
+    let says = |width: u32| picture.contains(&format!("<rect class='board' y='-{width}' "));
+    if says(100 * width) {
+        0
+    } else if says(width) {
+        1
+    } else {
+        2
+    }
+}
+
+fn figures(width: u16, resolution: u16, columns: u16) -> Figures {
+    Figures {
+        width,
+        resolution,
+        columns,
+    }
+}
+
+fn pieces(outlines: &[&[u16]], mask: u16) -> Vec<Piece> {
+    let with_mask = |outline: &&[u16]| Piece {
+        outline: outline.to_vec(),
+        mask,
+    };
+    outlines.iter().map(with_mask).collect()
+}
+
+fn sheets_in(folder: &str) -> Vec<PathBuf> {
+    let folder = Path::new(env!("CARGO_MANIFEST_DIR"))
+        .join("../..")
+        .join(folder);
+    let files = std::fs::read_dir(folder).expect("a folder");
+    let mut paths: Vec<PathBuf> = files.map(|file| file.expect("a file").path()).collect();
+    paths.retain(|path| path.extension().is_some_and(|kind| kind == "sheet"));
+    paths.sort();
+    paths
+}
+
+#[test]
+fn samples_and_seeds() {
+    let mut pictures = Pictures::default();
+    for folder in ["samples", "samples/bad", "tests/fuzz/seeds"] {
+        for path in sheets_in(folder) {
+            pictures.draw(&std::fs::read(path).expect("a sheet"));
+        }
+    }
+    assert!(pictures.pictures.len() >= 33);
+    assert!(pictures.with(">job refused ") >= 16);
+    let wallets = include_str!("../../../docs/wallets.svg");
+    assert_eq!(pictures.with(wallets), 1);
+}
+
+#[test]
+fn small_jobs() {
+    let mut pictures = Pictures::default();
+    let mut random = Random::new(301);
+    for _ in 0..250 {
+        pictures.draw(&job(&mut random).sheet());
+        pictures.draw(&sound_sheet(&mut random));
+    }
+    assert_eq!(pictures.scales, [500, 0, 0]);
+    assert!(pictures.with("<polygon") > 250 && pictures.with(" refused 13<") > 100);
+}
+
+/// A number up to `most`, as often small as large.
+fn of_any_size(random: &mut Random, least: u16, most: u16) -> u16 {
+    let halvings = random.index(12);
+    random.word(least, (most >> halvings).max(least))
+}
+
+#[test]
+fn jobs_of_every_size() {
+    let mut pictures = Pictures::default();
+    let mut random = Random::new(302);
+    for _ in 0..600 {
+        let width = of_any_size(&mut random, 1, 16_000);
+        let resolution = of_any_size(&mut random, 1, 400);
+        let columns = of_any_size(&mut random, 1, 4_096);
+        let figures = figures(width, resolution, columns);
+        let count = random.index(13);
+        let most = (width + width / 8).clamp(2, 1_000);
+        let size = of_any_size(&mut random, 2, most);
+        let pieces = sound_pieces(&mut random, count, size);
+        pictures.draw(&Job { figures, pieces }.sheet());
+    }
+    assert_eq!(pictures.with(">job refused "), 0);
+    assert!(pictures.scales[0] > 100 && pictures.scales[1] > 100);
+    let open = pictures.with("class='more' d");
+    assert!(open > 100 && open < 500);
+}
+
+/// Pieces up to 2 m long on strips up to 200 m long.
+#[test]
+fn long_strips() {
+    let mut pictures = Pictures::default();
+    let mut random = Random::new(303);
+    for count in [3, 8, 14, 15, 16] {
+        let long = random.word(15_000, 16_000);
+        let high = random.word(1, 3_000);
+        let bar = [0, 0, long, 0, long - 7, high, 3, high];
+        let width = random.word(high, 2 * high - 1);
+        let figures = figures(width, random.word(390, 400), random.word(1_000, 4_096));
+        let pieces = pieces(&vec![&bar[..]; count], 1);
+        pictures.draw(&Job { figures, pieces }.sheet());
+    }
+    assert_eq!(pictures.scales, [0, 2, 3]);
+}
+
+/// A spur as long as the piece, whose cells are all in its last column.
+#[test]
+fn cells_at_the_far_end() {
+    let mut pictures = Pictures::default();
+    for long in 1..200 {
+        let spur = [0, 0, long, 0, long, 1, long - 1, 0];
+        let figures = figures(100, 1, 200);
+        let pieces = pieces(&[&spur], 1);
+        let picture = pictures.draw(&Job { figures, pieces }.sheet());
+        assert!(!picture.contains("font-size='0'"));
+    }
+}
+
+#[test]
+fn damaged_sheets() {
+    let mut pictures = Pictures::default();
+    let mut random = Random::new(304);
+    for damage in SheetDamage::ALL {
+        for _ in 0..5 {
+            let damaged = damaged_sheet(&mut random, damage);
+            let picture = pictures.draw(&damaged.bytes);
+            assert!(picture.contains(&format!(">{}<", damaged.refusal)));
+        }
+    }
+    for number in [1, 2, 3, 6, 7, 8, 9, 10, 11] {
+        assert!(pictures.with(&format!(">job refused {number} ")) >= 5);
+    }
+    for _ in 0..50 {
+        let figures = any_figures(&mut random);
+        let pieces = sound_pieces(&mut random, 3, 8);
+        pictures.draw(&SheetPlan::shuffled(&mut random, figures, &pieces, true).bytes());
+    }
+    assert!(pictures.with("<polygon") > 10);
+}
+
+/// Of each fate: a piece of 3,001 runs, strips of 4,001 runs, pieces too large.
+#[test]
+fn each_fate() {
+    let mut pictures = Pictures::default();
+    let bar = |columns: u16| [0, 0, columns, 0, columns, 1, 0, 1];
+    let bars = [bar(3_000), bar(3_001), bar(3)];
+    let arms = |c: u16| [0, 0, c, 0, c, 1, 1, 1, 1, 2, c, 2, c, 3, 0, 3];
+    let block = |c: u16| [0, 0, c, 0, c, 3, 0, 3];
+    let half = arms(1_000);
+    for (figures, outlines) in [
+        (figures(2, 1, 4_096), vec![&bars[0][..], &bars[1], &bars[2]]),
+        (
+            figures(3, 1, 2_003),
+            vec![&half, &half, &block(3), &block(4), &block(2)],
+        ),
+    ] {
+        let pieces = pieces(&outlines, 1);
+        pictures.draw(&Job { figures, pieces }.sheet());
+    }
+    for number in [12, 13, 14] {
+        assert_eq!(pictures.with(&format!(" refused {number}<")), 1);
+    }
+}
+
+/// 200 pieces: the ordinals have three digits, and refused ones many rows.
+#[test]
+fn the_most_pieces() {
+    let mut pictures = Pictures::default();
+    let mut random = Random::new(305);
+    for _ in 0..30 {
+        let size = random.word(2, 30);
+        let pieces = sound_pieces(&mut random, 200, size);
+        let width = of_any_size(&mut random, 1, 200);
+        let figures = figures(width, random.word(1, 8), random.word(1, 400));
+        pictures.draw(&Job { figures, pieces }.sheet());
+    }
+    assert!(pictures.with(">200</text>") >= 5 && pictures.with(">200 refused 13<") >= 5);
+}
+
+/// The longest picture: 200 pieces of 64 vertices, which share their vertices, on
+/// a strip so long that lengths have decimals.
+#[test]
+fn the_longest_picture() {
+    let bottom = (0..32).flat_map(|place| [25 * place + place % 2, 17 * (place % 3)]);
+    let top = (0..32).rev().flat_map(|place| [26 * place, 15_999 - place]);
+    let outline: Vec<u16> = bottom.chain(top).collect();
+    let pieces = pieces(&[&outline[..]], 1);
+    let mut plan = SheetPlan::in_order(figures(16_000, 399, 4_096), &pieces);
+    plan.pieces = (2..202).map(|next| [1, 1, next % 201]).collect();
+    let mut pictures = Pictures::default();
+    let picture = pictures.draw(&plan.bytes());
+    assert_eq!(picture.matches("<polygon").count(), 200);
+    assert!(picture.len() > 200_000, "{}", picture.len());
+    assert_eq!(pictures.scales, [0, 0, 1]);
+}
+
+/// Public outlines, as many as a sheet takes, coarse and fine.
+#[test]
+fn public_jobs() {
+    let mut pictures = Pictures::default();
+    for (file, figures) in [
+        (data::NC_COUNTIES, figures(8_000, 100, 300)),
+        (data::NATURAL_EARTH, figures(500, 4, 200)),
+        (data::SHAPES_2, figures(15, 1, 40)),
+    ] {
+        for mask in [1, 15] {
+            let mut outlines = data::outlines(file);
+            outlines.retain(|outline| is_sound(outline, mask));
+            outlines.truncate(200);
+            let outlines: Vec<&[u16]> = outlines.iter().map(Vec::as_slice).collect();
+            let pieces = pieces(&outlines, mask);
+            pictures.draw(&Job { figures, pieces }.sheet());
+        }
+    }
+    assert_eq!(pictures.with("<polygon"), 6);
+}

@@ -1,0 +1,303 @@
+//! A job as text, as README.md describes it: what programs `sheet` and `show`
+//! print.
+//!
+//! A text has a line `strip W R N`, then for each piece a line
+//! `piece MASK x,y x,y x,y ..`. `#` begins a comment. After a line `mm` lengths
+//! are millimetres, before it units of 1/8 mm.
+
+use crate::figures::*;
+use crate::sheet::{ask_1_to_3, list_words, pieces_of_sheet, write};
+
+const MOST_BYTES: usize = 262_144;
+const MOST_LINES: usize = 65_535;
+const UNITS_IN_MILLIMETRE: u64 = 8;
+
+/// What is wrong with a line.
+type Fault = &'static str;
+
+const VERTICES: Fault = "a piece has 3 to 64 vertices";
+const NUMBER: Fault = "a number is expected";
+
+/// The sheet of a text, or the line that program `sheet` prints to standard
+/// error.
+pub fn sheet_of_text(text: &[u8]) -> Result<Vec<u8>, String> {
+    let job = TextJob::read(text)?;
+    let Figures {
+        width,
+        resolution,
+        columns,
+    } = job.figures;
+    let mut sheet = vec![0; MOST_SHEET_BYTES];
+    match write(
+        width,
+        resolution,
+        columns,
+        &list_words(&job.pieces),
+        &mut sheet,
+    ) {
+        Ok(size) => {
+            sheet.truncate(size as usize);
+            Ok(sheet)
+        }
+        Err(refusal) => Err(match job.line_of(refusal) {
+            Some(line) => format!("{refusal} (line {line})"),
+            None => refusal.to_string(),
+        }),
+    }
+}
+
+/// The text of a sheet in units, or that it is refused.
+pub fn text_of_sheet(sheet: &[u8]) -> String {
+    match figures_and_pieces(sheet) {
+        Ok((figures, pieces)) => text_of_job(&figures, &pieces),
+        Err(refusal) => format!("{refusal}\n"),
+    }
+}
+
+fn figures_and_pieces(sheet: &[u8]) -> Result<(Figures, Vec<Piece>), Refusal> {
+    Ok((ask_1_to_3(sheet)?, pieces_of_sheet(sheet)?))
+}
+
+fn text_of_job(figures: &Figures, pieces: &[Piece]) -> String {
+    let Figures {
+        width,
+        resolution,
+        columns,
+    } = figures;
+    let mut text = format!("strip {width} {resolution} {columns}\n");
+    for Piece { outline, mask } in pieces {
+        text += &format!("piece {mask}");
+        for vertex in outline.chunks_exact(2) {
+            text += &format!(" {},{}", vertex[0], vertex[1]);
+        }
+        text += "\n";
+    }
+    text
+}
+
+/// What a text says, and in which lines, counted from 1.
+struct TextJob {
+    figures: Figures,
+    strip_line: usize,
+    pieces: Vec<Piece>,
+    piece_lines: Vec<usize>,
+}
+
+impl TextJob {
+    fn read(text: &[u8]) -> Result<TextJob, String> {
+        if text.len() > MOST_BYTES {
+            return Err(format!("a text has at most {MOST_BYTES} bytes"));
+        }
+        let mut reader = Reader::default();
+        for line in text.split_inclusive(|&byte| byte == b'\n') {
+            if reader.line == MOST_LINES {
+                return Err(reader.message("a text has at most 65535 lines"));
+            }
+            reader.line += 1;
+            reader.read_line(line).map_err(|f| reader.message(f))?;
+        }
+        let Some((figures, strip_line)) = reader.strip else {
+            return Err(reader.message("there is no strip"));
+        };
+        Ok(TextJob {
+            figures,
+            strip_line,
+            pieces: reader.pieces,
+            piece_lines: reader.piece_lines,
+        })
+    }
+
+    /// The line of the strip for question 3, else that of the refused piece.
+    fn line_of(&self, refusal: Refusal) -> Option<usize> {
+        match refusal {
+            Refusal { number: 3, .. } => Some(self.strip_line),
+            Refusal { ordinal: 0, .. } => None,
+            Refusal { ordinal, .. } => Some(self.piece_lines[usize::from(ordinal) - 1]),
+        }
+    }
+}
+
+/// What the lines up to the present one have said.
+#[derive(Default)]
+struct Reader {
+    line: usize,
+    millimetres: bool,
+    strip: Option<(Figures, usize)>,
+    pieces: Vec<Piece>,
+    piece_lines: Vec<usize>,
+}
+
+impl Reader {
+    /// A text without a line has no line to name.
+    fn message(&self, fault: Fault) -> String {
+        match self.line {
+            0 => fault.to_string(),
+            line => format!("line {line}: {fault}"),
+        }
+    }
+
+    fn read_line(&mut self, line: &[u8]) -> Result<(), Fault> {
+        let said = line.split(|&byte| byte == b'#').next().unwrap_or(line);
+        let mut rest = Rest(said);
+        match rest.word() {
+            b"" => Ok(()),
+            b"strip" => self.read_strip(&mut rest),
+            b"piece" => self.read_piece(&mut rest),
+            b"mm" if rest.is_empty() => {
+                self.millimetres = true;
+                Ok(())
+            }
+            b"mm" => Err("nothing follows mm"),
+            _ => Err("a line begins with strip, piece or mm"),
+        }
+    }
+
+    fn read_strip(&mut self, rest: &mut Rest) -> Result<(), Fault> {
+        if self.strip.is_some() {
+            return Err("there is one strip");
+        }
+        let figures = Figures {
+            width: rest.length(self.millimetres)?,
+            resolution: rest.length(self.millimetres)?,
+            columns: rest.number()?,
+        };
+        if !rest.is_empty() {
+            return Err("a strip has width, resolution and columns");
+        }
+        self.strip = Some((figures, self.line));
+        Ok(())
+    }
+
+    fn read_piece(&mut self, rest: &mut Rest) -> Result<(), Fault> {
+        if self.strip.is_none() {
+            return Err("the strip comes before the pieces");
+        }
+        if self.pieces.len() == MOST_PIECES {
+            return Err("a job has at most 200 pieces");
+        }
+        let mask = rest.number()?;
+        let mut outline = Vec::new();
+        while !rest.is_empty() {
+            if outline.len() == 2 * MOST_VERTICES {
+                return Err(VERTICES);
+            }
+            outline.extend(rest.vertex(self.millimetres)?);
+        }
+        if outline.len() < 2 * FEWEST_VERTICES {
+            return Err(VERTICES);
+        }
+        self.pieces.push(Piece { outline, mask });
+        self.piece_lines.push(self.line);
+        Ok(())
+    }
+}
+
+/// What is left of a line. What is read is taken from its start.
+struct Rest<'a>(&'a [u8]);
+
+fn is_blank(byte: &u8) -> bool {
+    b" \t\r\n".contains(byte)
+}
+
+impl<'a> Rest<'a> {
+    fn take_while(&mut self, wanted: impl Fn(&u8) -> bool) -> &'a [u8] {
+        let count = self.0.iter().take_while(|&byte| wanted(byte)).count();
+        let (taken, left) = self.0.split_at(count);
+        self.0 = left;
+        taken
+    }
+
+    /// Nothing but blanks, which are taken.
+    fn is_empty(&mut self) -> bool {
+        self.take_while(is_blank);
+        self.0.is_empty()
+    }
+
+    fn word(&mut self) -> &'a [u8] {
+        self.take_while(is_blank);
+        self.take_while(|byte| !is_blank(byte))
+    }
+
+    fn take(&mut self, byte: u8) -> bool {
+        match self.0.split_first() {
+            Some((&first, left)) if first == byte => {
+                self.0 = left;
+                true
+            }
+            _ => false,
+        }
+    }
+
+    fn digits(&mut self) -> Result<&'a [u8], Fault> {
+        match self.take_while(u8::is_ascii_digit) {
+            [] => Err(NUMBER),
+            digits => Ok(digits),
+        }
+    }
+
+    fn number(&mut self) -> Result<u16, Fault> {
+        self.take_while(is_blank);
+        self.units()
+    }
+
+    fn length(&mut self, millimetres: bool) -> Result<u16, Fault> {
+        self.take_while(is_blank);
+        if millimetres {
+            self.millimetres()
+        } else {
+            self.units()
+        }
+    }
+
+    fn units(&mut self) -> Result<u16, Fault> {
+        in_16_bits(value(self.digits()?))
+    }
+
+    fn millimetres(&mut self) -> Result<u16, Fault> {
+        let whole = value(self.digits()?);
+        let part = if self.take(b'.') {
+            thousandths(self.take_while(u8::is_ascii_digit))?
+        } else {
+            0
+        };
+        if part % 125 != 0 {
+            return Err("a length is a multiple of 0.125 mm");
+        }
+        let eighths = whole.saturating_mul(UNITS_IN_MILLIMETRE);
+        in_16_bits(eighths.saturating_add(part / 125))
+    }
+
+    /// x and y, with a comma and no blank between them.
+    fn vertex(&mut self, millimetres: bool) -> Result<[u16; 2], Fault> {
+        let x = self.length(millimetres)?;
+        if !self.take(b',') {
+            return Err("a vertex is x,y");
+        }
+        if self.0.first().is_some_and(is_blank) {
+            return Err(NUMBER);
+        }
+        Ok([x, self.length(millimetres)?])
+    }
+}
+
+/// The number that these digits are, or a number too large for everything.
+fn value(digits: &[u8]) -> u64 {
+    digits.iter().fold(0, |number: u64, digit| {
+        let more = u64::from(digit - b'0');
+        number.saturating_mul(10).saturating_add(more)
+    })
+}
+
+fn in_16_bits(number: u64) -> Result<u16, Fault> {
+    u16::try_from(number).map_err(|_| "a number is at most 65535 units")
+}
+
+/// The digits after a point.
+fn thousandths(digits: &[u8]) -> Result<u64, Fault> {
+    match digits.len() {
+        1 => Ok(100 * value(digits)),
+        2 => Ok(10 * value(digits)),
+        3 => Ok(value(digits)),
+        _ => Err("one to three digits follow a point"),
+    }
+}

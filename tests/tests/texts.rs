@@ -1,0 +1,218 @@
+//! Jobs as text: what they say, and what is said of bad ones.
+
+mod common;
+use common::*;
+use reference::generate::{
+    any_job, damaged_text, job, text_at_limit, text_of_job, Random, TextDamage,
+};
+use reference::text::{sheet_of_text, text_of_sheet};
+
+fn accepted(text: &str, job: &[u8]) {
+    assert_eq!(sheet_of_text(text.as_bytes()), Ok(job.to_vec()), "{text}");
+}
+
+fn bad(text: &str, message: &str) {
+    assert_eq!(
+        sheet_of_text(text.as_bytes()),
+        Err(message.into()),
+        "{text}"
+    );
+}
+
+const SQUARE: &str = "piece 15 0,0 32,0 32,32 0,32\n";
+
+#[test]
+fn the_same_job_in_many_ways() {
+    let sheet = sheet(10, 2, 9, &[(&S, 1), (&T, 15)]);
+    let plain = "strip 10 2 9\npiece 1 0,0 4,0 4,4 0,4\npiece 15 0,0 3,0 3,2\n";
+    assert_eq!(text_of_sheet(&sheet), plain);
+    accepted(plain, &sheet);
+    accepted(plain.trim_end(), &sheet);
+    accepted(&plain.replace('\n', "\r\n"), &sheet);
+    accepted(&plain.replace('\n', " # a comment\n\n#\n"), &sheet);
+    accepted(&plain.replace(' ', "\t \r"), &sheet);
+    accepted(&plain.replace(' ', " 00000000000000000000"), &sheet);
+    let millimetres = "mm\nstrip 1.25 0.25 9\npiece 1 0,0 0.5,0 0.50,0.500 0,0.5\n\
+                       piece 15 0,0 0.375,0 0.375,0.25\n";
+    accepted(millimetres, &sheet);
+    // The millimetres begin after the strip, and go on.
+    accepted(
+        "strip 10 2 9\nmm\npiece 1 0,0 0.5,0 0.500,0.5 0,0.5\nmm\npiece 15 0,0 0.375,0 0.375,0.25",
+        &sheet,
+    );
+}
+
+const NUMBER: &str = "a number is expected";
+const STRIP: &str = "a strip has width, resolution and columns";
+const VERTICES: &str = "a piece has 3 to 64 vertices";
+
+/// A line after a strip, in units.
+fn bad_line(line: &str, message: &str) {
+    bad(
+        &format!("strip 10 2 10\n{line}\n"),
+        &format!("line 2: {message}"),
+    );
+}
+
+/// The same in millimetres.
+fn bad_millimetres(line: &str, message: &str) {
+    bad(
+        &format!("mm\nstrip 10 2 10\n{line}\n"),
+        &format!("line 3: {message}"),
+    );
+}
+
+#[test]
+fn bad_lines() {
+    bad("", "there is no strip");
+    bad("# nothing\n\n", "line 2: there is no strip");
+    bad("mm 1\n", "line 1: nothing follows mm");
+    bad("mm mm\n", "line 1: nothing follows mm");
+    bad(SQUARE, "line 1: the strip comes before the pieces");
+    for line in ["hole 1 0,0", "pieces", "piece,", "MM", "15", "\x0c"] {
+        bad_line(line, "a line begins with strip, piece or mm");
+    }
+}
+
+#[test]
+fn bad_strips() {
+    for figures in ["10 2", "10 2 x", "10,2,10", "10.5 2 10"] {
+        bad(&format!("strip {figures}\n"), &format!("line 1: {NUMBER}"));
+    }
+    for figures in ["10 2 10 10", "10 2 10x", "10 2 10.5"] {
+        bad(&format!("strip {figures}\n"), &format!("line 1: {STRIP}"));
+        // The number of columns is no length.
+        bad(
+            &format!("mm\nstrip {figures}\n"),
+            &format!("line 2: {STRIP}"),
+        );
+    }
+    bad_line("strip 10 2 10", "there is one strip");
+}
+
+#[test]
+fn bad_pieces() {
+    bad_line("piece 1", VERTICES);
+    bad_line("piece 1 0,0 4,0 # 4,4", VERTICES);
+    bad_line(&format!("piece 1{}", " 1,1".repeat(65)), VERTICES);
+    for vertex in ["4 4", "4", "4x,4", "4 ,4", "4.5,4"] {
+        bad_line(&format!("piece 1 0,0 4,0 {vertex}"), "a vertex is x,y");
+    }
+    for vertex in ["4,x", "4,", "4, 4", ",4", "4,1.5", "4,-1", "4,4,4", "4,4x"] {
+        bad_line(&format!("piece 1 0,0 4,0 {vertex}"), NUMBER);
+    }
+    // The mask is no length.
+    bad_millimetres("piece 1.0 0,0 4,0 4,4", NUMBER);
+}
+
+#[test]
+fn bad_numbers() {
+    let large = "a number is at most 65535 units";
+    for vertex in [
+        "4,65536",
+        "99999999999999999999,4",
+        "4,184467440737095516170",
+    ] {
+        bad_line(&format!("piece 1 0,0 4,0 {vertex}"), large);
+    }
+    for vertex in [
+        "4,8192",
+        "99999999999999999999.5,4",
+        "4,2305843009213693952",
+    ] {
+        bad_millimetres(&format!("piece 1 0,0 4,0 {vertex}"), large);
+    }
+    for vertex in ["4,1.1", "4.01,1", "4,99999999999999999999.001"] {
+        let eighth = "a length is a multiple of 0.125 mm";
+        bad_millimetres(&format!("piece 1 0,0 4,0 {vertex}"), eighth);
+    }
+    for vertex in ["4,1.1250", "4.,1", "4,1."] {
+        let digits = "one to three digits follow a point";
+        bad_millimetres(&format!("piece 1 0,0 4,0 {vertex}"), digits);
+    }
+}
+
+#[test]
+fn limits_of_a_text() {
+    let strip = "strip 40 2 10\n";
+    let most = strip.to_string() + &SQUARE.repeat(200);
+    assert!(sheet_of_text(most.as_bytes()).is_ok());
+    bad(&(most + SQUARE), "line 202: a job has at most 200 pieces");
+    let most = strip.to_string() + &"\n".repeat(65_534);
+    accepted(&most, &sheet(40, 2, 10, &[]));
+    let more = most + "# no line break";
+    bad(&more, "line 65535: a text has at most 65535 lines");
+    let most = strip.to_string() + &" ".repeat(262_144 - strip.len());
+    accepted(&most, &sheet(40, 2, 10, &[]));
+    bad(&(most + " "), "a text has at most 262144 bytes");
+}
+
+/// What write refuses, with the line that is about it.
+#[test]
+fn refused_jobs() {
+    let with = |line: &str| format!("strip 10 2 10\n{SQUARE}# two\n{line}\n");
+    bad(
+        &format!("# one\nstrip 10 0 10\n{SQUARE}"),
+        "job refused 3 0 (line 2)",
+    );
+    bad("strip 0 2 10", "job refused 3 0 (line 1)");
+    bad(&with("piece 1 0,0 16001,0 4,4"), "job refused 8 2 (line 4)");
+    bad(&with("piece 16 0,0 4,0 4,4"), "job refused 9 2 (line 4)");
+    bad(
+        &with("piece 15 0,0 1,2 1,0 0,2"),
+        "job refused 10 2 (line 4)",
+    );
+    bad(&with("piece 15 0,0 4,0 2,0"), "job refused 11 2 (line 4)");
+    let long = format!("piece 1 0,0 4,0 4,4{}\n", " 4,4".repeat(61));
+    let most = "strip 10 2 10\n".to_string() + &long.repeat(168);
+    let written = sheet_of_text(most.as_bytes()).expect("good");
+    assert_eq!(written.len(), 65_536);
+    bad(&(most + &long), "job refused 2 0");
+}
+
+/// A good text gives the sheet of its job, however it is written.
+#[test]
+fn texts_of_jobs() {
+    for seed in 0..2_000 {
+        let mut random = Random::new(seed);
+        let job = job(&mut random);
+        let text = text_of_job(&mut random, &job);
+        let sheet = job.sheet();
+        assert_eq!(sheet_of_text(&text), Ok(sheet.clone()), "{seed}");
+        let shown = text_of_sheet(&sheet);
+        assert_eq!(sheet_of_text(shown.as_bytes()), Ok(sheet), "{seed}");
+    }
+}
+
+/// Any text gives a sheet that reads back, or a message of one line.
+#[test]
+fn any_text() {
+    for seed in 0..2_000 {
+        let mut random = Random::new(seed);
+        let job = any_job(&mut random);
+        let mut text = text_of_job(&mut random, &job);
+        if random.once_in(50) {
+            text = text_at_limit(&mut random);
+        }
+        let damage = random.pick(&TextDamage::ALL);
+        match sheet_of_text(&damaged_text(&mut random, &text, damage)) {
+            Ok(sheet) => assert!(text_of_sheet(&sheet).starts_with("strip ")),
+            Err(message) => assert!(!message.is_empty() && !message.contains('\n')),
+        }
+    }
+}
+
+/// The texts of samples/ say what the sheets beside them do.
+#[test]
+fn samples() {
+    let folder = concat!(env!("CARGO_MANIFEST_DIR"), "/../samples");
+    for name in ["wallets", "holes", "fates", "three-squares"] {
+        let file = |kind: &str| std::fs::read(format!("{folder}/{name}.{kind}")).expect("a sample");
+        let sheet = sheet_of_text(&file("txt")).expect("a good text");
+        assert_eq!(
+            text_of_sheet(&sheet),
+            text_of_sheet(&file("sheet")),
+            "{name}"
+        );
+    }
+}
