@@ -40,8 +40,9 @@ fn draw_laid(sheet: &[u8], t: Totals, entries: &[u16], work: &mut [u16], out: &m
     put_picture(out, frame::scene_of(f, t, list[0]), &list, entries, work)
 }
 
-// The picture of a job that is laid or refused.
-fn draw_answer(
+// The picture of a job that is laid or refused, at the start of the output. Answers the number of its bytes, or the output's length if that
+// is too short.
+pub fn draw_answer(
     sheet: &[u8],
     a: Laying,
     entries: &[u16],
@@ -52,28 +53,4 @@ fn draw_answer(
         Laying::Laid(t) => draw_laid(sheet, t, entries, work, out),
         Laying::Refused(r) => frame::put_refused(out, r),
     }
-}
-
-// The lay call, of which only the answer is used here.
-fn lay(sheet: &[u8], strip: &mut [u16], entries: &mut [u16], work: &mut [u16]) -> Laying {
-    laying::lay(sheet, strip, entries, work)
-}
-
-// The job on a lent strip. Lends the other buffers.
-fn draw_strip(sheet: &[u8], strip: &mut [u16], out: &mut [u8]) -> usize {
-    let mut entries = [0u16; lent::ENTRIES];
-    let mut work = [0u16; lent::WORK];
-    let a = lay(sheet, strip, &mut entries, &mut work);
-    draw_answer(sheet, a, &entries, &mut work, out)
-}
-
-// The picture of the job on a sheet, at the start of the output. Answers the number of its bytes, or the output's length if that is
-// too short. As much of the strip is lent as the sheet is to have.
-pub fn draw(sheet: &[u8], out: &mut [u8]) -> usize {
-    let mut strip = [0u16; lent::STRIP];
-    let n = lent::strip_words(sheet);
-    if lent::STRIP < n {
-        return 0;
-    }
-    draw_strip(sheet, &mut strip[..n], out)
 }

@@ -43,7 +43,7 @@ fn opens(
     apart(h0, h1, w, s.count)
 }
 
-// The same.
+// Whether the slab at the left end of the outline, `wide` units wide, shows a cell.
 fn opens_left(o: &[u16], b: Bounds, t: u16, wide: u16) -> bool
     requires { ⌜ Lent (now o) ⌝ ∗ ⌜ BoundsOf (now o) (b .left) (b .right) (b .foot) (b .head) ⌝ ∗ ⌜ (t ≤ 3) × (0 < wide) ⌝
         ∗ ⌜ KeepsOrder (turned (now o) t) ⌝ }

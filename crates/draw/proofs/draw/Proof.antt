@@ -3,8 +3,8 @@ use mathlib.Core.Path.{sym}
 use lib.Seq.{length-take-le}
 use native.Mathlib.Omega.{arith}
 use borrow.Author.Needs.{needs}
-use Rattle.drawing.proofs.draw.Statement.{statement}
-use Rattle.drawing.proofs.draw.Tie as tie
+use Rattle.draw.proofs.draw.Statement.{statement}
+use Rattle.draw.proofs.draw.Tie as tie
 
 strip-words-requires : tie.Need-strip-words-requires
 strip-words-requires c κs = search needs
