@@ -28,8 +28,9 @@
  * Refusals
  *
  * The questions of a call are asked in rising order, those of a piece (7 to 11) piece by piece, and the first "no" is the answer;
- * only vikelodu_write asks for the sheet's size (2) after its pieces. A refused call changes no word of the strip and no word or
- * byte of the output; the work buffer is zero after every call, granted or refused. What is lent as const is never changed.
+ * but 16 and 17 are asked directly after 3, or where 3 would be, and vikelodu_write asks for the sheet's size (2) after its
+ * pieces. A refused call changes no word of the strip and no word or byte of the output; the work buffer is zero after every
+ * call, granted or refused. What is lent as const is never changed.
  * In vikelodu_lay 12 to 14 refuse one piece and not the job: they are in the output and never in the answer.
  */
 #ifndef VIKELODU_H
@@ -50,8 +51,8 @@ enum vikelodu_number {
     /* The sheet's length is not 16 + 6 V + 6 P, or it is above 65,536; in vikelodu_write the list's sheet would be longer than
        that. */
     VIKELODU_SHEET_LENGTH = 2,
-    /* The width is not 1 to 16,000, the resolution not 1 to 400, or the columns not 1 to 4,096. */
-    VIKELODU_LIMITS = 3,
+    /* The width is not 1 to 16,000 units. Answered by vikelodu_open, vikelodu_read, vikelodu_write and vikelodu_lay. */
+    VIKELODU_WIDTH = 3,
     /* The strip has not 4 + columns + 4 * records words for any number of records from 1 to 16,000. */
     VIKELODU_STRIP_LENGTH = 4,
     /* The strip is not well formed: it was not opened, it has another length than it was opened with, or its words were
@@ -78,7 +79,12 @@ enum vikelodu_number {
     VIKELODU_RECORDS = 14,
     /* The output has not as many words as the list of vikelodu_read or the pieces of vikelodu_lay need, or bytes as the sheet of
        vikelodu_write. */
-    VIKELODU_OUTPUT = 15
+    VIKELODU_OUTPUT = 15,
+    /* The resolution is not 1 to 400 units. Answered by the calls that answer 3, which ask it directly after, and by
+       vikelodu_cover. */
+    VIKELODU_RESOLUTION = 16,
+    /* The columns are not 1 to 4,096. Answered by the calls that answer 3, which ask it directly after 16. */
+    VIKELODU_COLUMNS = 17
 };
 
 /* The words of a strip. A record holds one run; what the pieces need depends on their form and on how their runs join. */
@@ -105,7 +111,7 @@ enum vikelodu_number {
  *   strip               VIKELODU_STRIP_WORDS(columns, records) words for some 1 to 16,000 records; what they hold is not looked
  *                       at
  *
- * Refused with 3 or 4, ordinal 0. Granted, the answer is 0.
+ * Refused with 3, 16, 17 or 4, ordinal 0. Granted, the answer is 0.
  *
  * The strip is then: width, resolution, columns, the number of the first free record; for each column the number of its first
  * record; and the records from 1 on, each of four words: column, low, high, and the number of the next record, 0 after the last.
@@ -143,7 +149,7 @@ uint64_t vikelodu_place(uint16_t *strip, size_t strip_words, const uint16_t *out
  *   resolution   1 to 400
  *   output       three words for each run: column, low, high, by column and then low; words after the last run stay
  *
- * Refused with 3, ordinal 0, or with 7 to 12, ordinal 1. Granted, the answer has the number of runs.
+ * Refused with 16, ordinal 0, or with 7 to 12, ordinal 1. Granted, the answer has the number of runs.
  */
 uint64_t vikelodu_cover(const uint16_t *outline, size_t outline_words, uint16_t turn, uint16_t resolution, uint16_t *output,
                         size_t output_words);
@@ -167,8 +173,8 @@ uint64_t vikelodu_cover(const uint16_t *outline, size_t outline_words, uint16_t 
  * A list is the number of pieces, 0 to 200, and then for each piece, in the order of the chain: the number of its vertices, its
  * mask, and its outline as words x, y, x, y and so on. Outline and mask are as vikelodu_place takes them.
  *
- * Refused with 1, 2, 3, 6 or 15, ordinal 0, or with 7 to 11 and the ordinal of the piece in the chain, from 1 on. Granted, the
- * answer has the width, the resolution and the columns, each in the limits of vikelodu_open.
+ * Refused with 1, 2, 3, 16, 17, 6 or 15, ordinal 0, or with 7 to 11 and the ordinal of the piece in the chain, from 1 on.
+ * Granted, the answer has the width, the resolution and the columns, each in the limits of vikelodu_open.
  */
 uint64_t vikelodu_read(const uint8_t *sheet, size_t sheet_bytes, uint16_t *output, size_t output_words);
 
@@ -184,8 +190,8 @@ uint64_t vikelodu_read(const uint8_t *sheet, size_t sheet_bytes, uint16_t *outpu
  * The sheet has VIKELODU_SHEET_BYTES(vertices, pieces) bytes. Its records are numbered 1, 2, 3 in the order of the list, each
  * piece with vertex records of its own. So a list that was read from a sheet with shared records may get 2.
  *
- * Refused with 3 or 6, ordinal 0; with 7 to 11 and the ordinal of the piece in the list, from 1 on; then with 2 or 15, ordinal 0.
- * Granted, the answer has the size of the sheet in bytes.
+ * Refused with 3, 16, 17 or 6, ordinal 0; with 7 to 11 and the ordinal of the piece in the list, from 1 on; then with 2 or 15,
+ * ordinal 0. Granted, the answer has the size of the sheet in bytes.
  */
 uint64_t vikelodu_write(uint16_t width, uint16_t resolution, uint16_t columns, const uint16_t *list, size_t list_words,
                         uint8_t *output, size_t output_bytes);
@@ -201,10 +207,10 @@ uint64_t vikelodu_write(uint16_t width, uint16_t resolution, uint16_t columns, c
  *            VIKELODU_MOST_LAY_WORDS are always enough
  *   work     as in vikelodu_place, of any number of words, 0 too: a piece for which it is too short is refused with 12
  *
- * Refused with 1, 2, 3, 4 or 6, ordinal 0; with 7 to 11 and the ordinal of the piece in the chain, from 1 on; then with 15,
- * ordinal 0. A refused job lays nothing, also where one piece alone is at fault: the strip is not opened, it and the output keep
- * their words, and all words of the work buffer are 0. The columns of a sheet are in its bytes 8 and 9, and vikelodu_read answers
- * them.
+ * Refused with 1, 2, 3, 16, 17, 4 or 6, ordinal 0; with 7 to 11 and the ordinal of the piece in the chain, from 1 on; then with
+ * 15, ordinal 0. A refused job lays nothing, also where one piece alone is at fault: the strip is not opened, it and the output
+ * keep their words, and all words of the work buffer are 0. The columns of a sheet are in its bytes 8 and 9, and vikelodu_read
+ * answers them.
  *
  * Granted, the answer has the number of pieces placed and the used columns: one more than the last column of the piece that ends
  * farthest to the right, 0 if none is placed. The output has four words for each piece, in the order of the chain:

@@ -141,12 +141,12 @@ static void refused_open(uint16_t width, uint16_t resolution, uint16_t columns, 
 }
 
 static void test_open(void) {
-    refused_open(0, 2, 10, 38, VIKELODU_LIMITS);
-    refused_open(16001, 2, 10, 38, VIKELODU_LIMITS);
-    refused_open(10, 0, 10, 38, VIKELODU_LIMITS);
-    refused_open(10, 401, 10, 38, VIKELODU_LIMITS);
-    refused_open(10, 2, 0, 38, VIKELODU_LIMITS);
-    refused_open(10, 2, 4097, 38, VIKELODU_LIMITS);
+    refused_open(0, 2, 10, 38, VIKELODU_WIDTH);
+    refused_open(16001, 2, 10, 38, VIKELODU_WIDTH);
+    refused_open(10, 0, 10, 38, VIKELODU_RESOLUTION);
+    refused_open(10, 401, 10, 38, VIKELODU_RESOLUTION);
+    refused_open(10, 2, 0, 38, VIKELODU_COLUMNS);
+    refused_open(10, 2, 4097, 38, VIKELODU_COLUMNS);
     refused_open(10, 2, 10, 0, VIKELODU_STRIP_LENGTH);
     refused_open(10, 2, 10, 14, VIKELODU_STRIP_LENGTH);
     refused_open(10, 2, 10, 37, VIKELODU_STRIP_LENGTH);
@@ -273,8 +273,9 @@ static void test_cover(void) {
     expect_fences("around the output", output);
     drop(output);
     drop(before);
-    cover("resolution 0", square, WORDS(square), 0, 0, 9, VIKELODU_LIMITS, 0);
-    cover("resolution 401", square, WORDS(square), 0, 401, 9, VIKELODU_LIMITS, 0);
+    cover("resolution 0", square, WORDS(square), 0, 0, 9, VIKELODU_RESOLUTION, 0);
+    cover("resolution 401", square, WORDS(square), 0, 401, 9, VIKELODU_RESOLUTION, 0);
+    cover("resolution 0 and two vertices", square, 4, 0, 0, 9, VIKELODU_RESOLUTION, 0);
     cover("two vertices", square, 4, 0, 2, 9, VIKELODU_VERTICES, 1);
     cover("16,001", far, WORDS(far), 0, 2, 9, VIKELODU_COORDINATE, 1);
     cover("turn 4", square, WORDS(square), 4, 2, 9, VIKELODU_TURN, 1);
@@ -448,8 +449,9 @@ static void test_refused_sheets(void) {
     changed("another first byte", 0, 0x4F, VIKELODU_NO_SHEET, 0);
     changed("another fourth byte", 3, 1, VIKELODU_NO_SHEET, 0);
     changed("another V", 12, 8, VIKELODU_SHEET_LENGTH, 0);
-    changed("resolution 0", 6, 0, VIKELODU_LIMITS, 0);
-    changed("width 65,324", 5, 0xFF, VIKELODU_LIMITS, 0);
+    changed("width 65,324", 5, 0xFF, VIKELODU_WIDTH, 0);
+    changed("resolution 0", 6, 0, VIKELODU_RESOLUTION, 0);
+    changed("columns 0", 8, 0, VIKELODU_COLUMNS, 0);
     changed("first piece past P", 10, 3, VIKELODU_PIECES, 0);
     changed("a piece after itself", PIECE + 4, 1, VIKELODU_PIECES, 0);
     changed("two vertices", VERTEX + 10, 0, VIKELODU_VERTICES, 1);
@@ -471,7 +473,7 @@ static void test_write(void) {
     write_list("words after them", 300, longer, 21, size + 90, written(size), two_pieces, size);
     WRITE_REFUSED("an output short by one", two_pieces_list, size - 1, VIKELODU_OUTPUT, 0);
     WRITE_REFUSED("no output", two_pieces_list, 0, VIKELODU_OUTPUT, 0);
-    write_list("width 0", 0, two_pieces_list, 19, size, refused(VIKELODU_LIMITS, 0), NULL, 0);
+    write_list("width 0", 0, two_pieces_list, 19, size, refused(VIKELODU_WIDTH, 0), NULL, 0);
     write_list("no words", 300, two_pieces_list, 0, size, refused(VIKELODU_PIECES, 0), NULL, 0);
     write_list("cut off", 300, two_pieces_list, 18, size, refused(VIKELODU_VERTICES, 2), NULL, 0);
 }
@@ -661,7 +663,9 @@ static void test_refused_jobs(void) {
     size_t size = sizeof three_squares, words = VIKELODU_STRIP_WORDS(10, 4);
     lay_refused("15 bytes", three_squares, 15, words, 12, VIKELODU_NO_SHEET, 0);
     lay_refused("cut off", three_squares, size - 1, words, 12, VIKELODU_SHEET_LENGTH, 0);
-    lay_changed("width 0", 4, 0, VIKELODU_LIMITS, 0);
+    lay_changed("width 0", 4, 0, VIKELODU_WIDTH, 0);
+    lay_changed("resolution 0", 6, 0, VIKELODU_RESOLUTION, 0);
+    lay_changed("columns 0", 8, 0, VIKELODU_COLUMNS, 0);
     lay_refused("a strip short by one", three_squares, size, words - 1, 12, VIKELODU_STRIP_LENGTH, 0);
     lay_refused("no records", three_squares, size, VIKELODU_STRIP_WORDS(10, 0), 12, VIKELODU_STRIP_LENGTH, 0);
     lay_changed("a piece after itself", PIECE + 4, 1, VIKELODU_PIECES, 0);
@@ -670,6 +674,48 @@ static void test_refused_jobs(void) {
     lay_changed("mask 16 of the third", PIECE + 6 * 2 + 2, 16, VIKELODU_TURN, 3);
     lay_changed("two vertices for the second", PIECE + 6, 3, VIKELODU_VERTICES, 2);
     lay_refused("an output short by one", three_squares, size, words, 11, VIKELODU_OUTPUT, 0);
+}
+
+/* Width, resolution and columns out of limits, one by one and together, where what is asked after them is wrong too: the length
+   of the strip (4), the piece chain or the list's count (6). */
+static void test_limits(void) {
+    static const struct {
+        uint16_t width, resolution, columns, number;
+    } cases[] = {
+        {0, 2, 10, VIKELODU_WIDTH},
+        {16001, 2, 10, VIKELODU_WIDTH},
+        {0, 0, 10, VIKELODU_WIDTH},
+        {0, 2, 0, VIKELODU_WIDTH},
+        {16001, 401, 4097, VIKELODU_WIDTH},
+        {10, 0, 10, VIKELODU_RESOLUTION},
+        {10, 401, 10, VIKELODU_RESOLUTION},
+        {10, 0, 0, VIKELODU_RESOLUTION},
+        {10, 401, 4097, VIKELODU_RESOLUTION},
+        {10, 2, 0, VIKELODU_COLUMNS},
+        {10, 2, 4097, VIKELODU_COLUMNS},
+    };
+    static const uint16_t pieces_201[] = {201};
+    for (size_t i = 0; i < WORDS(cases); i++) {
+        uint16_t width = cases[i].width, resolution = cases[i].resolution, columns = cases[i].columns;
+        uint64_t number = cases[i].number;
+        uint16_t figures[] = {width, resolution, columns, 9}; /* the first piece is past P */
+        uint8_t sheet[sizeof three_squares];
+        memcpy(sheet, three_squares, sizeof sheet);
+        for (size_t j = 0; j < WORDS(figures); j++) {
+            sheet[4 + 2 * j] = (uint8_t)figures[j];
+            sheet[5 + 2 * j] = (uint8_t)(figures[j] >> 8);
+        }
+        refused_open(width, resolution, columns, 3, number);
+        READ_REFUSED("figures of a sheet", sheet, 100, number, 0);
+        lay_refused("figures of a job", sheet, sizeof sheet, 3, 12, number, 0);
+        struct bytes output = make_bytes(90), before = make_bytes(90);
+        uint64_t answer = vikelodu_write(width, resolution, columns, pieces_201, 1, output.at, output.count);
+        expect("figures of a list", answer, refused(number, 0));
+        expect_bytes("output of a refused write", output, before.at);
+        expect_fences_of_bytes("around the output", output);
+        drop_bytes(output);
+        drop_bytes(before);
+    }
 }
 
 static void test_accessors(void) {
@@ -708,6 +754,7 @@ int main(void) {
     test_lay();
     test_lay_on_bytes();
     test_refused_jobs();
+    test_limits();
     if (different) {
         return 1;
     }

@@ -11,7 +11,7 @@ int LLVMFuzzerInitialize(int *count, char ***words);
 
 static void print_times(void) {
     fprintf(stderr, "granted %llu", came[0]);
-    for (int number = 1; number < 16; number++) {
+    for (int number = 1; number < NUMBERS; number++) {
         if (came[number] > 0) {
             fprintf(stderr, ", %d %llu", number, came[number]);
         }

@@ -170,8 +170,14 @@ uint64_t plain_read(const uint8_t *sheet, size_t bytes, uint16_t *list, size_t *
         return refused(2, 0);
     }
     unsigned width = number_at(sheet, 4), resolution = number_at(sheet, 6), columns = number_at(sheet, 8);
-    if (!in_limits(width, 16000) || !in_limits(resolution, 400) || !in_limits(columns, 4096)) {
+    if (!in_limits(width, 16000)) {
         return refused(3, 0);
+    }
+    if (!in_limits(resolution, 400)) {
+        return refused(16, 0);
+    }
+    if (!in_limits(columns, 4096)) {
+        return refused(17, 0);
     }
     if (count_pieces(&of) < 0) {
         return refused(6, 0);

@@ -12,7 +12,7 @@
 #include <string.h>
 #include <sys/mman.h>
 
-unsigned long long came[16];
+unsigned long long came[NUMBERS];
 
 static void same(const char *what, uint64_t engine, uint64_t plain) {
     if (engine != plain) {

@@ -7,7 +7,10 @@
 
 int LLVMFuzzerTestOneInput(const uint8_t *data, size_t size);
 
+/* The numbers are 0 to 17. */
+enum { NUMBERS = 18 };
+
 /* How often each number came; 0 is granted. */
-extern unsigned long long came[16];
+extern unsigned long long came[NUMBERS];
 
 #endif

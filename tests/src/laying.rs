@@ -3,7 +3,7 @@
 use crate::figures::*;
 use crate::outline::{columns_wide, extent, turned, vertices};
 use crate::placing::place;
-use crate::sheet::{ask_1_to_3, pieces_of_sheet};
+use crate::sheet::{ask_head, pieces_of_sheet};
 use crate::strip::{ask_4, open};
 
 /// "Output is four words a piece: 0 or its number, turn, column, height (zeros
@@ -13,7 +13,8 @@ const ENTRY: usize = 4;
 /// "Lay reads a sheet, opens the lent strip and places the pieces in chain
 /// order, going on after a piece that is refused."
 ///
-/// "lay 1 to 4, 6 to 11, 15, and 12 to 14 only as a piece's fate"
+/// "lay 1 to 4, 6 to 11, 15, and 12 to 14 only as a piece's fate", by S-1 with 16
+/// and 17 after 3
 pub fn lay(
     sheet: &[u8],
     strip: &mut [u16],
@@ -22,7 +23,7 @@ pub fn lay(
 ) -> Result<Totals, Refusal> {
     // "A work buffer is zero after each call."
     work.fill(0);
-    let figures = ask_1_to_3(sheet)?;
+    let figures = ask_head(sheet)?;
     ask_4(strip.len(), figures.columns)?;
     let pieces = pieces_of_sheet(sheet)?;
     // "15. Does the output buffer hold the output?"
@@ -63,9 +64,9 @@ pub struct LaidJob {
 /// "Program `lay` reads a sheet from standard input (Q 4,000, work buffer 9,000
 /// words)."
 pub fn laid_job(sheet: &[u8]) -> Result<LaidJob, Refusal> {
-    // N is needed for the strip's length. Where 1, 2 or 3 says no, so would lay
-    // itself, before it asks about the strip.
-    let figures = ask_1_to_3(sheet)?;
+    // N is needed for the strip's length. Where 1, 2, 3, 16 or 17 says no, so
+    // would lay itself, before it asks about the strip.
+    let figures = ask_head(sheet)?;
     let mut strip = vec![0; 4 + usize::from(figures.columns) + 4 * 4_000];
     let mut work = vec![0; 9_000];
     let mut output = vec![0; ENTRY * MOST_PIECES];

@@ -1,13 +1,14 @@
-//! A reference program for document 01, the box-board nesting engine.
+//! A reference program for document 01, the box-board nesting engine, as change
+//! request S-1 has changed it.
 //!
-//! It is written straight from the sentences of the paper, which are quoted
+//! It is written straight from the sentences of the two papers, which are quoted
 //! above the functions that state them, and it prefers the plain way to the
 //! quick one. All arithmetic is exact: whole numbers and products of whole
 //! numbers. Two places have a quicker form beside the plain one, the cells an
 //! outline covers ([`cells`]) and the search for a position ([`placing`]); the
 //! tests compare the two forms.
 //!
-//! Modules [`text`] and [`picture`] are not of the paper: they say what programs
+//! Modules [`text`] and [`picture`] are not of the papers: they say what programs
 //! `sheet`, `show` and `draw` print.
 //!
 //! Module [`generate`] makes inputs of every kind, good and bad, from a seed.

@@ -1,31 +1,31 @@
-//! The questions that several calls put: 3, and 7 to 11 of one piece.
+//! The questions that several calls put: 3, 16 and 17, and 7 to 11 of one piece.
 
 use crate::cells::a_cell_is_covered;
 use crate::figures::*;
 use crate::outline::{some_edges_change_order, turned, vertices};
 
-/// "3. Are W, R, N (those given) in their limits?" for W.
-pub fn width_in_limits(w: u16) -> bool {
-    (1..=MOST_WIDTH).contains(&w)
-}
-
-/// The same for R.
-pub fn resolution_in_limits(r: u16) -> bool {
-    (1..=MOST_RESOLUTION).contains(&r)
-}
-
-/// The same for N.
-pub fn columns_in_limits(n: u16) -> bool {
-    (1..=MOST_COLUMNS).contains(&n)
-}
-
-/// "3. Are W, R, N (those given) in their limits?" where all three are given.
-pub fn ask_3(w: u16, r: u16, n: u16) -> Result<(), Refusal> {
-    if width_in_limits(w) && resolution_in_limits(r) && columns_in_limits(n) {
+/// S-1: "16 when the resolution is outside its limits"
+pub fn ask_16(r: u16) -> Result<(), Refusal> {
+    if (1..=MOST_RESOLUTION).contains(&r) {
         Ok(())
     } else {
-        Err(no(3, 0))
+        Err(no(16, 0))
     }
+}
+
+/// "3. Are W, R, N (those given) in their limits?" Changed by S-1: "Number 3 now
+/// means the width only. [...] New numbers: 16 when the resolution is outside
+/// its limits, then 17 when the column count is, both directly after 3 wherever
+/// 3 is asked."
+pub fn ask_limits(w: u16, r: u16, n: u16) -> Result<(), Refusal> {
+    if !(1..=MOST_WIDTH).contains(&w) {
+        return Err(no(3, 0));
+    }
+    ask_16(r)?;
+    if !(1..=MOST_COLUMNS).contains(&n) {
+        return Err(no(17, 0));
+    }
+    Ok(())
 }
 
 /// "7. [...] has a lent outline an even length of 6 to 128 words?"

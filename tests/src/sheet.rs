@@ -59,8 +59,8 @@ fn piece_record(sheet: &[u8], number: usize) -> [u16; 3] {
     three_numbers_at(sheet, HEAD + RECORD * before)
 }
 
-/// Questions 1, 2 and 3 of a sheet.
-pub fn ask_1_to_3(sheet: &[u8]) -> Result<Figures, Refusal> {
+/// What is asked of a sheet before its records: 1, 2, 3, 16 and 17.
+pub fn ask_head(sheet: &[u8]) -> Result<Figures, Refusal> {
     // "1. Does the sheet have 16 bytes and begin with its four bytes?"
     if sheet.len() < HEAD || sheet[..4] != FIRST_BYTES {
         return Err(no(1, 0));
@@ -71,7 +71,7 @@ pub fn ask_1_to_3(sheet: &[u8]) -> Result<Figures, Refusal> {
         return Err(no(2, 0));
     }
     let figures = figures_of(sheet);
-    ask_3(figures.width, figures.resolution, figures.columns)?;
+    ask_limits(figures.width, figures.resolution, figures.columns)?;
     Ok(figures)
 }
 
@@ -168,9 +168,9 @@ fn first_piece_of_list(words: &[u16]) -> Option<(Piece, &[u16])> {
 
 /// "Reading walks each chain [...] and gives W, R, N and the cut list in words"
 ///
-/// "read asks 1, 2, 3, 6 to 11, 15"
+/// "read asks 1, 2, 3, 6 to 11, 15", by S-1 with 16 and 17 after 3
 pub fn read(sheet: &[u8], output: &mut [u16]) -> Result<Figures, Refusal> {
-    let figures = ask_1_to_3(sheet)?;
+    let figures = ask_head(sheet)?;
     let words = list_words(&pieces_of_sheet(sheet)?);
     // "15. Does the output buffer hold the output?"
     if output.len() < words.len() {
@@ -182,9 +182,9 @@ pub fn read(sheet: &[u8], output: &mut [u16]) -> Result<Figures, Refusal> {
 
 /// Writes the list as a sheet and answers its size in bytes.
 ///
-/// "write 3, 6 to 11, then 2 (size), 15"
+/// "write 3, 6 to 11, then 2 (size), 15", by S-1 with 16 and 17 after 3
 pub fn write(w: u16, r: u16, n: u16, list: &[u16], output: &mut [u8]) -> Result<u32, Refusal> {
-    ask_3(w, r, n)?;
+    ask_limits(w, r, n)?;
     let pieces = pieces_of_list(list)?;
     let sheet_vertices: usize = pieces.iter().map(|piece| piece.outline.len() / 2).sum();
     let size = HEAD + RECORD * sheet_vertices + RECORD * pieces.len();

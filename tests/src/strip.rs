@@ -71,7 +71,7 @@ pub fn well_formed(strip: &[u16]) -> bool {
         return false;
     }
     let (w, r, n, first_free) = (strip[0], strip[1], strip[2], strip[3]);
-    if ask_3(w, r, n).is_err() {
+    if ask_limits(w, r, n).is_err() {
         return false;
     }
     let n = usize::from(n);
@@ -196,9 +196,9 @@ pub fn ask_4(length: usize, n: u16) -> Result<(), Refusal> {
 
 /// "Opening makes all columns empty."
 ///
-/// "open 3, 4"
+/// "open 3, 4", by S-1 with 16 and 17 after 3
 pub fn open(w: u16, r: u16, n: u16, strip: &mut [u16]) -> Result<(), Refusal> {
-    ask_3(w, r, n)?;
+    ask_limits(w, r, n)?;
     ask_4(strip.len(), n)?;
     put_runs(strip, w, r, n, &vec![Vec::new(); usize::from(n)]);
     Ok(())

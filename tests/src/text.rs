@@ -6,7 +6,7 @@
 //! are millimetres, before it units of 1/8 mm.
 
 use crate::figures::*;
-use crate::sheet::{ask_1_to_3, list_words, pieces_of_sheet, write};
+use crate::sheet::{ask_head, list_words, pieces_of_sheet, write};
 
 const MOST_BYTES: usize = 262_144;
 const MOST_LINES: usize = 65_535;
@@ -55,7 +55,7 @@ pub fn text_of_sheet(sheet: &[u8]) -> String {
 }
 
 fn figures_and_pieces(sheet: &[u8]) -> Result<(Figures, Vec<Piece>), Refusal> {
-    Ok((ask_1_to_3(sheet)?, pieces_of_sheet(sheet)?))
+    Ok((ask_head(sheet)?, pieces_of_sheet(sheet)?))
 }
 
 fn text_of_job(figures: &Figures, pieces: &[Piece]) -> String {
@@ -107,10 +107,14 @@ impl TextJob {
         })
     }
 
-    /// The line of the strip for question 3, else that of the refused piece.
+    /// The line of the strip where one of its figures is refused, else that of
+    /// the refused piece.
     fn line_of(&self, refusal: Refusal) -> Option<usize> {
         match refusal {
-            Refusal { number: 3, .. } => Some(self.strip_line),
+            Refusal {
+                number: 3 | 16 | 17,
+                ..
+            } => Some(self.strip_line),
             Refusal { ordinal: 0, .. } => None,
             Refusal { ordinal, .. } => Some(self.piece_lines[usize::from(ordinal) - 1]),
         }

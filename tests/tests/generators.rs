@@ -195,23 +195,22 @@ fn damages_of_the_leading_words_are_the_only_ones() {
 
 #[test]
 fn figures_in_and_out_of_limits() {
-    let (mut good, mut bad) = (0, 0);
+    let mut numbers = [0; 18];
     for seed in 0..500 {
         let mut random = Random::new(seed);
         let of = any_figures(&mut random);
         let length = strip_length(of.columns, 1);
-        match check_open(of.width, of.resolution, of.columns, length) {
-            Ok(_) => good += 1,
-            Err(refusal) => {
-                assert_eq!(refusal, no(3, 0));
-                bad += 1;
-            }
-        }
+        let answer = check_open(of.width, of.resolution, of.columns, length);
+        numbers[answer.map_or_else(|refusal| usize::from(refusal.number), |_| 0)] += 1;
         let of = small_figures(&mut random);
         let length = strip_length(of.columns, 1);
         assert!(check_open(of.width, of.resolution, of.columns, length).is_ok());
     }
-    assert!(good > 100 && bad > 100, "{good} {bad}");
+    // The length is right, so 4 does not come.
+    assert_eq!(numbers[0] + numbers[3] + numbers[16] + numbers[17], 500);
+    for number in [0, 3, 16, 17] {
+        assert!(numbers[number] > 50, "{number}: {numbers:?}");
+    }
 }
 
 #[test]

@@ -1,6 +1,7 @@
 //! Where several questions say no, the first in the call's order answers.
 //!
-//! "Order: rising, 7 to 11 piece by piece"
+//! "Order: rising, 7 to 11 piece by piece", but S-1: 16 and 17 "both directly
+//! after 3 wherever 3 is asked".
 
 mod common;
 use common::*;
@@ -14,7 +15,8 @@ const CROSSED_FAR: [u16; 8] = [0, 0, 1, 2, 1, 0, 0, 16_001];
 #[test]
 fn cover_in_order() {
     let odd = &FAR[..5];
-    assert_eq!(check_cover(odd, 4, 0, 0), Err(no(3, 0)));
+    assert_eq!(check_cover(odd, 4, 0, 0), Err(no(16, 0)));
+    assert_eq!(check_cover(odd, 4, 401, 0), Err(no(16, 0)));
     assert_eq!(check_cover(odd, 4, 2, 0), Err(no(7, 1)));
     assert_eq!(check_cover(&[0, 0, 16_001], 0, 2, 9), Err(no(7, 1)));
     assert_eq!(check_cover(&CROSSED_FAR, 4, 2, 0), Err(no(8, 1)));
@@ -28,10 +30,36 @@ fn cover_in_order() {
 }
 
 #[test]
-fn open_3_before_4() {
-    assert_eq!(check_open(0, 2, 10, 0), Err(no(3, 0)));
-    assert_eq!(check_open(10, 2, 0, 0), Err(no(3, 0)));
-    assert_eq!(check_open(10, 2, 4_097, 4 + 4_096 + 4), Err(no(3, 0)));
+fn open_in_order() {
+    assert_eq!(check_open(0, 0, 0, 0), Err(no(3, 0)));
+    assert_eq!(check_open(10, 0, 0, 0), Err(no(16, 0)));
+    assert_eq!(check_open(10, 2, 0, 0), Err(no(17, 0)));
+    assert_eq!(check_open(10, 2, 10, 0), Err(no(4, 0)));
+    assert_eq!(check_open(10, 2, 4_097, 4 + 4_096 + 4), Err(no(17, 0)));
+}
+
+/// W, R and N, each below its limits, in them or above, in every combination,
+/// where the question after 17 has to say no too: 4 or 6.
+#[test]
+fn limits_in_order() {
+    for w in [0, 10, 16_001] {
+        for r in [0, 2, 401] {
+            for n in [0, 10, 4_097] {
+                let refused = |after| match (w, r, n) {
+                    (10, 2, 10) => no(after, 0),
+                    (10, 2, _) => no(17, 0),
+                    (10, _, _) => no(16, 0),
+                    _ => no(3, 0),
+                };
+                let mut plan = plan(w, r, n, &[(&S, 1)]);
+                plan.first_piece = 9;
+                assert_eq!(check_open(w, r, n, 0), Err(refused(4)));
+                assert_eq!(check_read(&plan.bytes(), 0), Err(refused(6)));
+                assert_eq!(check_write((w, r, n), &[], 0), Err(refused(6)));
+                assert_eq!(check_lay(&plan.bytes(), [0, 0, 0]), Err(refused(4)));
+            }
+        }
+    }
 }
 
 #[test]
@@ -62,9 +90,9 @@ fn place_in_order() {
 
 #[test]
 fn read_in_order() {
-    // First bytes, length, W, piece chain, pieces and output are all wrong.
+    // First bytes, length, W, R, N, piece chain, pieces and output are all wrong.
     let of: [(&[u16], u16); 2] = [(&S[..4], 0), (&FAR, 0)];
-    let mut plan = plan(0, 2, 10, &of);
+    let mut plan = plan(0, 0, 0, &of);
     plan.pieces[1][2] = 9;
     let mut first = plan.bytes();
     first.push(0);
@@ -74,6 +102,10 @@ fn read_in_order() {
     assert_eq!(check_read(&first, 0), Err(no(2, 0)));
     assert_eq!(check_read(&plan.bytes(), 0), Err(no(3, 0)));
     plan.figures.width = 10;
+    assert_eq!(check_read(&plan.bytes(), 0), Err(no(16, 0)));
+    plan.figures.resolution = 2;
+    assert_eq!(check_read(&plan.bytes(), 0), Err(no(17, 0)));
+    plan.figures.columns = 10;
     assert_eq!(check_read(&plan.bytes(), 0), Err(no(6, 0)));
     plan.pieces[1][2] = 0;
     assert_eq!(check_read(&plan.bytes(), 0), Err(no(7, 1)));
@@ -130,7 +162,9 @@ fn seven_of_the_whole_piece_before_eight() {
 
 #[test]
 fn write_in_order() {
-    assert_eq!(check_write((0, 2, 10), &[], 0), Err(no(3, 0)));
+    assert_eq!(check_write((0, 0, 0), &[201, 0], 0), Err(no(3, 0)));
+    assert_eq!(check_write((10, 0, 0), &[201, 0], 0), Err(no(16, 0)));
+    assert_eq!(check_write((10, 2, 0), &[201, 0], 0), Err(no(17, 0)));
     assert_eq!(check_write((10, 2, 10), &[201, 0], 0), Err(no(6, 0)));
     assert_eq!(check_write((10, 2, 10), &[1], 0), Err(no(7, 1)));
     // 200 pieces of 64 vertices are too much for a sheet, but 6 to 11 of every
@@ -150,11 +184,15 @@ fn write_in_order() {
 #[test]
 fn lay_in_order() {
     let of: [(&[u16], u16); 2] = [(&S, 1), (&FLAT, 1)];
-    let mut plan = plan(10, 2, 0, &of);
+    let mut plan = plan(0, 0, 0, &of);
     plan.first_piece = 9;
     assert_eq!(check_lay(&plan.bytes()[..15], [0, 0, 0]), Err(no(1, 0)));
     assert_eq!(check_lay(&plan.bytes()[..17], [0, 0, 0]), Err(no(2, 0)));
     assert_eq!(check_lay(&plan.bytes(), [0, 0, 0]), Err(no(3, 0)));
+    plan.figures.width = 10;
+    assert_eq!(check_lay(&plan.bytes(), [0, 0, 0]), Err(no(16, 0)));
+    plan.figures.resolution = 2;
+    assert_eq!(check_lay(&plan.bytes(), [0, 0, 0]), Err(no(17, 0)));
     plan.figures.columns = 10;
     assert_eq!(check_lay(&plan.bytes(), [0, 0, 0]), Err(no(4, 0)));
     assert_eq!(check_lay(&plan.bytes(), [18, 0, 0]), Err(no(6, 0)));

@@ -2,10 +2,14 @@
 //!
 //! "read asks 1, 2, 3, 6 to 11, 15; write 3, 6 to 11, then 2 (size), 15; open
 //! 3, 4; cover 3, 7 to 12; place 5, 7 to 14; lay 1 to 4, 6 to 11, 15, and 12 to
-//! 14 only as a piece's fate."
+//! 14 only as a piece's fate." Changed by S-1: "Number 3 now means the width
+//! only. Cover asks only about the resolution. New numbers: 16 when the
+//! resolution is outside its limits, then 17 when the column count is, both
+//! directly after 3 wherever 3 is asked."
 //!
 //! The ordinal is "0 for questions 1 to 6 and 15, for the size in write [...],
-//! else the piece's place in chain or list, 1 where one outline is lent".
+//! else the piece's place in chain or list, 1 where one outline is lent". Like 3,
+//! 16 and 17 are about no piece: 0.
 
 mod common;
 use common::*;
@@ -13,17 +17,17 @@ use reference::generate::SheetPlan;
 
 /// W, R and N in their limits, at both ends.
 const IN_LIMITS: [(u16, u16, u16); 3] = [(1, 1, 1), (10, 2, 10), (16_000, 400, 4_096)];
-/// One of them out of its limits.
-const OUT_OF_LIMITS: [(u16, u16, u16); 9] = [
-    (0, 2, 10),
-    (16_001, 2, 10),
-    (65_535, 2, 10),
-    (10, 0, 10),
-    (10, 401, 10),
-    (10, 65_535, 10),
-    (10, 2, 0),
-    (10, 2, 4_097),
-    (10, 2, 65_535),
+/// One of them out of its limits, and the number for it.
+const OUT_OF_LIMITS: [((u16, u16, u16), u16); 9] = [
+    ((0, 2, 10), 3),
+    ((16_001, 2, 10), 3),
+    ((65_535, 2, 10), 3),
+    ((10, 0, 10), 16),
+    ((10, 401, 10), 16),
+    ((10, 65_535, 10), 16),
+    ((10, 2, 0), 17),
+    ((10, 2, 4_097), 17),
+    ((10, 2, 65_535), 17),
 ];
 
 /// Outlines of a wrong length: "an even length of 6 to 128 words".
@@ -41,10 +45,10 @@ const BAD_MASKS: [u16; 7] = [0, 16, 17, 31, 256, 32_768, 65_535];
 // --------------------------------------------------------------------- cover
 
 #[test]
-fn cover_3() {
-    assert_eq!(check_cover(&S, 0, 0, 90), Err(no(3, 0)));
-    assert_eq!(check_cover(&S, 0, 401, 90), Err(no(3, 0)));
-    assert_eq!(check_cover(&S, 0, 65_535, 90), Err(no(3, 0)));
+fn cover_16() {
+    assert_eq!(check_cover(&S, 0, 0, 90), Err(no(16, 0)));
+    assert_eq!(check_cover(&S, 0, 401, 90), Err(no(16, 0)));
+    assert_eq!(check_cover(&S, 0, 65_535, 90), Err(no(16, 0)));
     assert_eq!(check_cover(&S, 0, 400, 90), Ok(vec![[0, 0, 4]]));
     assert_eq!(check_cover(&S, 0, 1, 90).unwrap().len(), 4);
 }
@@ -107,9 +111,10 @@ fn cover_12() {
 // ---------------------------------------------------------------------- open
 
 #[test]
-fn open_3() {
-    for (w, r, n) in OUT_OF_LIMITS {
-        assert_eq!(check_open(w, r, n, strip_length(n, 6)), Err(no(3, 0)));
+fn open_3_16_17() {
+    for ((w, r, n), number) in OUT_OF_LIMITS {
+        let answer = check_open(w, r, n, strip_length(n, 6));
+        assert_eq!(answer, Err(no(number, 0)));
     }
     for (w, r, n) in IN_LIMITS {
         assert!(check_open(w, r, n, strip_length(n, 6)).is_ok());
@@ -333,10 +338,10 @@ fn read_2() {
 }
 
 #[test]
-fn read_3() {
-    for (w, r, n) in OUT_OF_LIMITS {
+fn read_3_16_17() {
+    for ((w, r, n), number) in OUT_OF_LIMITS {
         let bad = sheet(w, r, n, &[(&S, 1)]);
-        assert_eq!(check_read(&bad, 90), Err(no(3, 0)));
+        assert_eq!(check_read(&bad, 90), Err(no(number, 0)));
     }
     for (w, r, n) in IN_LIMITS {
         let good = sheet(w, r, n, &[(&S, 1)]);
@@ -412,9 +417,10 @@ fn read_15() {
 const WRN: (u16, u16, u16) = (10, 2, 10);
 
 #[test]
-fn write_3() {
-    for figures in OUT_OF_LIMITS {
-        assert_eq!(check_write(figures, &list(&[(&S, 1)]), 90), Err(no(3, 0)));
+fn write_3_16_17() {
+    for (figures, number) in OUT_OF_LIMITS {
+        let answer = check_write(figures, &list(&[(&S, 1)]), 90);
+        assert_eq!(answer, Err(no(number, 0)));
     }
     for figures in IN_LIMITS {
         assert!(check_write(figures, &list(&[(&S, 1)]), 90).is_ok());
@@ -532,11 +538,11 @@ fn lay_2() {
 }
 
 #[test]
-fn lay_3() {
-    for (w, r, n) in OUT_OF_LIMITS {
+fn lay_3_16_17() {
+    for ((w, r, n), number) in OUT_OF_LIMITS {
         let bad = sheet(w, r, n, &[(&S, 1)]);
         let room = [strip_length(n, 100), 900, 9_000];
-        assert_eq!(check_lay(&bad, room), Err(no(3, 0)));
+        assert_eq!(check_lay(&bad, room), Err(no(number, 0)));
     }
     for (w, r, n) in IN_LIMITS {
         let good = sheet(w, r, n, &[(&S, 1)]);

@@ -245,7 +245,7 @@ fn b11_some_q() {
     }
 }
 
-/// A strip lent to place with wrong figures or length gets 5, not 3 or 4.
+/// A strip lent to place with wrong figures or length gets 5, not 3, 16, 17 or 4.
 #[test]
 fn b12_place_answers_5() {
     let good = opened(10, 2, 10, 6);

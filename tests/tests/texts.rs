@@ -153,9 +153,11 @@ fn refused_jobs() {
     let with = |line: &str| format!("strip 10 2 10\n{SQUARE}# two\n{line}\n");
     bad(
         &format!("# one\nstrip 10 0 10\n{SQUARE}"),
-        "job refused 3 0 (line 2)",
+        "job refused 16 0 (line 2)",
     );
-    bad("strip 0 2 10", "job refused 3 0 (line 1)");
+    bad("strip 0 0 0", "job refused 3 0 (line 1)");
+    bad("strip 10 401 0", "job refused 16 0 (line 1)");
+    bad("\nstrip 10 2 4097", "job refused 17 0 (line 2)");
     bad(&with("piece 1 0,0 16001,0 4,4"), "job refused 8 2 (line 4)");
     bad(&with("piece 16 0,0 4,0 4,4"), "job refused 9 2 (line 4)");
     bad(

@@ -1,5 +1,5 @@
 -- Demand 2, cells: the runs that cover writes hold the cells of the turned outline, are its runs, and stand by column then row. A granted
--- cover has passed questions 3 and 7 to 12, so its rows are the covered ones, and the words of a run stand at three times its number.
+-- cover has passed questions 16 and 7 to 12, so its rows are the covered ones, and the words of a run stand at three times its number.
 -- Assumes nothing.
 use mathlib.Core.Path.{_≡_, refl, sym, subst, _∙_}
 use mathlib.Core.Logic.{_↔_, _⊎_, inl, inr, ⊎-elim, Iff·symm}
@@ -17,7 +17,7 @@ use Rattle.defs.specs.Computing.Test.{ask}
 use Rattle.defs.specs.Computing.Cells.{Rows, inRows, pieceRuns, countRuns}
 use Rattle.defs.specs.Computing.Words.{resolutionb}
 use Rattle.defs.specs.Computing.Calls.{refusal, q12b, outlineNo, coverAnswer, runsWords, coverOutput}
-use Rattle.laws.proofs.Questions.{question-3-R, question-7, question-9-turn}
+use Rattle.laws.proofs.Questions.{question-16, question-7, question-9-turn}
 use Rattle.geom.proofs.Stretches.{among-of}
 use Rattle.geom.proofs.RunLists.{Apart, place, place-holds, stretch-is-run, stretches-rise}
 use Rattle.geom.proofs.Counting.{numberOf, number-below, spot, spot-number, none}
@@ -96,7 +96,7 @@ granted o t R words n e = go (resolutionb R) refl (outlineNo o (leb t mostTurn) 
   where
     go : (b : Bool) → resolutionb R ≡ b → (m : ℕ) → outlineNo o (leb t mostTurn) (2 ^ t) R ≡ m → (c : Bool) →
         Runs n ≡
-        (ask b (Refused (refusal 3 0)) λ _.
+        (ask b (Refused (refusal 16 0)) λ _.
         ask (eqb m 0) (Refused (refusal m 1)) λ _.
         ask c (Refused (refusal 12 1)) λ _. Runs (countRuns (pieceRuns o t R))) →
         Granted o t R n
@@ -122,7 +122,7 @@ cells-are o t R rest e3 e7 =
         Iff·symm
         (piece-cells o t R
         (keeps-decides o t .0 (sym (orders-one o t (question-9-turn t .0 (q .2))) ∙ q .3))
-        (has-side o (question-7 o .0 (q .0))) (question-3-R R .0 e3 .at-least) i j)
+        (has-side o (question-7 o .0 (q .0))) (question-16 R .0 e3 .at-least) i j)
 
 pub demand2-cells : Demand2-cells
 unfolding Demand2-cells coverOutput

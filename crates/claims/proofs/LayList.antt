@@ -6,7 +6,7 @@ use mathlib.Core.Option.{none}
 use mathlib.Core.List.{List, []}
 use Prim.Native.Nat.{ℕ, _+_, _*_, _<_}
 use native.Mathlib.Omega.{arith}
-use lib.Dec.{leb}
+use lib.Dec.{leb, eqb}
 use lib.ListN.{length, getD, replicate}
 use Rattle.defs.specs.declared.Refusal.{Refusal}
 use Rattle.defs.specs.declared.Fate.{Fate}
@@ -18,11 +18,11 @@ use Rattle.defs.specs.Answer.{fateWords}
 use Rattle.defs.specs.Meaning.Sheet.{Piece, sheetW, sheetR, sheetN}
 use Rattle.defs.specs.Meaning.Job.{Used, CountPlaced}
 use Rattle.defs.specs.Computing.Cells.{Rows}
-use Rattle.defs.specs.Computing.Words.{limitsb, lengthb, recordsOf}
+use Rattle.defs.specs.Computing.Words.{limitsNo, lengthb, recordsOf}
 use Rattle.defs.specs.Computing.Calls.{refusal, cleared, openAnswer, Left, OpenLeaves, OpenStep}
 use Rattle.defs.specs.Computing.Sheets.{q1b, q2b, sheetNo, pieceRecords, sheetPieces}
 use Rattle.defs.specs.Computing.Lay.{fateOf, placedIn, usedIn, layEntries, layAnswer, layOutput, LayLeaves, LayStep}
-use Rattle.laws.proofs.Questions.{question-3, length-decides}
+use Rattle.laws.proofs.Questions.{limits-none, length-decides}
 use Rattle.laws.proofs.Entries.{length-entriesFrom}
 use Rattle.sheets.proofs.Asking.{asked, some-none}
 use Rattle.sheets.proofs.Passing.{Held, none-held}
@@ -41,7 +41,7 @@ unfolding sheetNo
 fourth b t e =
     let e1 = asked (q1b b) _ e some-none in
     let e2 = asked (q2b b) _ (e1 .1) some-none in
-    let e3 = asked (limitsb (sheetW b) (sheetR b) (sheetN b)) _ (e2 .1) some-none in
+    let e3 = asked (eqb (limitsNo (sheetW b) (sheetR b) (sheetN b)) 0) _ (e2 .1) some-none in
     asked t _ (e3 .1) some-none .0
 
 lay-refused : {t : Totals} (r : Refusal) → ¬ (NotLaid r ≡ Laid t)
@@ -73,12 +73,12 @@ lay-granted b strip out work t e =
     }
 
 -- an opened strip is one with the empty table
-opened-step : (W R N : ℕ) (s s' : List ℕ) → limitsb W R N ≡ true → lengthb N (length s) ≡ true →
+opened-step : (W R N : ℕ) (s s' : List ℕ) → limitsNo W R N ≡ 0 → lengthb N (length s) ≡ true →
     Left W R N (length s) (λ k. getD (replicate N []) k []) s' → OpenStep W R N s Opened s'
 unfolding openAnswer OpenLeaves
-opened-step W R N s s' three four l =
+opened-step W R N s s' limits four l =
     record {
-      answer = rw (three, four) refl;
+      answer = rw (limits, four) refl;
       strip =
           record {
             well-formed = l .well-formed;
@@ -118,7 +118,7 @@ module _ {b s out work : List ℕ} {t : Totals} {s' out' work' : List ℕ} (x : 
   between : Strips W R N Q (length s) work empty ps s'
   unfolding LayLeaves
   between =
-      strips (given .held .holds .q3) (length-decides N (length s) .0 (given .long)) work empty ps s' (empty-writable W N Q)
+      strips (given .held .holds .limits) (length-decides N (length s) .0 (given .long)) work empty ps s' (empty-writable W N Q)
       (x .strip)
 
   abbrev call : ℕ → Call
@@ -139,7 +139,7 @@ module _ {b s out work : List ℕ} {t : Totals} {s' out' work' : List ℕ} (x : 
         call = call;
         strip = between .strip;
         open-step =
-            opened-step W R N s (between .strip 0) (question-3 W R N .1 (given .held .holds .q3)) (given .long) (between .first);
+            opened-step W R N s (between .strip 0) (limits-none W R N .1 (given .held .holds .limits)) (given .long) (between .first);
         place-step = between .step;
       }
 

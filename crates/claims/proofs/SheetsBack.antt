@@ -44,7 +44,7 @@ module _ {sheet out out' : List ℕ} {f : Figures} (r : ReadStep sheet out (Read
   ps = sheetPieces sheet
 
   limits : Limits (f .width) (f .resolution) (f .columns)
-  limits = rw (given .figures) (given .held .holds .q3)
+  limits = rw (given .figures) (given .held .holds .limits)
 
   passes : Each (PiecePasses (f .resolution)) ps
   passes = rw (given .figures) (given .held .passes)

@@ -77,9 +77,9 @@ module _ (o : List ℕ) (t R words : ℕ) where
       go true true true {d' = false} q f g = rw (f q)
       go true true true {d' = true} q f g = rw (f q, g q)
 
-  pub cover-3 : resolutionb R ≡ false → NotCovered (refusal 3 0) ≡ coverAnswer o t R words
+  pub cover-16 : resolutionb R ≡ false → NotCovered (refusal 16 0) ≡ coverAnswer o t R words
   unfolding coverAnswer
-  cover-3 e = rw e
+  cover-16 e = rw e
 
   pub cover-no : {n : ℕ} → resolutionb R ≡ true → n ≡ turnNo o t → 0 < n → NotCovered (refusal n 1) ≡ coverAnswer o t R words
   unfolding coverAnswer

@@ -17,7 +17,7 @@ use Rattle.defs.specs.Meaning.Placing.{columnsFor}
 use Rattle.defs.specs.Computing.Test.{listFrom}
 use Rattle.defs.specs.Computing.Cells.{Rows, joinRow, stretches, coveredb, pieceRuns, countRuns}
 use Rattle.defs.specs.Computing.Calls.{refusal, runsWords, coverAnswer, coverOutput, CoverStep}
-use Rattle.laws.proofs.Questions.{question-3-R}
+use Rattle.laws.proofs.Questions.{question-16}
 use Rattle.geom.proofs.Checks.{keeps-decides}
 use Rattle.outline.specs.Vertex.{Lent}
 use Rattle.checks.proofs.Turned.{lent-of}
@@ -26,7 +26,7 @@ use Rattle.geom.proofs.RunWords.{runs-length}
 use Rattle.cover.specs.Written.{CoverRuns, Counted}
 use Rattle.cover.proofs.Answers.{passed, cover-11, cover-12, cover-runs}
 
--- what 3 and 7 to 10 give
+-- what 16 and 7 to 10 give
 pub lent : {o : List ℕ} {t R : ℕ} → CoverRuns o t R → Lent o
 lent {o} {t} c = let p = passed o t (c .none-no) in lent-of o (p .seven) (p .eight)
 
@@ -37,7 +37,7 @@ pub keeps : {o : List ℕ} {t R : ℕ} → CoverRuns o t R → KeepsOrder (turne
 keeps {o} {t} c = keeps-decides o t .0 (passed o t (c .none-no) .ten)
 
 pub in-limits : {o : List ℕ} {t R : ℕ} → CoverRuns o t R → Resolution R
-in-limits {R = R} c = let b = question-3-R R .0 (c .resolution) in record { least = b .at-least; most = b .at-most }
+in-limits {R = R} c = let b = question-16 R .0 (c .resolution) in record { least = b .at-least; most = b .at-most }
 
 words-long : {o : List ℕ} {t R : ℕ} {out out' : List ℕ} {k : ℕ} → PutRuns o t R out out' k →
     length (runsWords 0 (pieceRuns o t R)) ≡ 3 * k

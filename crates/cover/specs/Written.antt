@@ -11,7 +11,7 @@ use Rattle.cells.specs.Put.{Resolution}
 use Rattle.defs.specs.Computing.Words.{resolutionb}
 use Rattle.cover.specs.Turn.{turnNo}
 
--- question 3 is passed, and 7 to 10 are
+-- question 16 is passed, and 7 to 10 are
 pub record CoverRuns (o : List ℕ) (t R : ℕ) : Type 0 where
   pub resolution : resolutionb R ≡ true
   pub none-no : 0 ≡ turnNo o t

@@ -88,7 +88,7 @@ pub fn cover(o: &[u16], t: u16, r: u16, out: &mut [u16]) -> Covering
     ensures { λ a. ⌜ CoverStep (now (o .entry)) t r (now (out .entry)) a (now (out .exit)) ⌝ }
 {
     if !limits::resolution_fits(r) {
-        return refused(3, 0);
+        return refused(16, 0);
     }
     let n = turn_no(o, t);
     if n != 0 {

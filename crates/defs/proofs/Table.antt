@@ -241,8 +241,8 @@ spur-fits = refl
 
 -- Strips.
 
--- Opening: 3, 4 (Q from 1 to 16,000), and the words of one opened strip.
-open-numbers : openAnswer 0 1 6 30 ∷ openAnswer 16001 1 6 30 ∷ openAnswer 2 401 6 30 ∷ openAnswer 2 1 4097 4105 ∷ openAnswer 2 1 6 10 ∷ openAnswer 2 1 6 13 ∷ openAnswer 2 1 6 64014 ∷ openAnswer 2 1 6 64010 ∷ openAnswer 2 1 6 14 ∷ [] ≡ NotOpened (refusal 3 0) ∷ NotOpened (refusal 3 0) ∷ NotOpened (refusal 3 0) ∷ NotOpened (refusal 3 0) ∷ NotOpened (refusal 4 0) ∷ NotOpened (refusal 4 0) ∷ NotOpened (refusal 4 0) ∷ Opened ∷ Opened ∷ []
+-- Opening: 3, 16, 17, 4 (Q from 1 to 16,000), and the words of one opened strip.
+open-numbers : openAnswer 0 1 6 30 ∷ openAnswer 16001 1 6 30 ∷ openAnswer 2 401 6 30 ∷ openAnswer 2 1 4097 4105 ∷ openAnswer 2 1 6 10 ∷ openAnswer 2 1 6 13 ∷ openAnswer 2 1 6 64014 ∷ openAnswer 2 1 6 64010 ∷ openAnswer 2 1 6 14 ∷ openAnswer 0 0 0 10 ∷ openAnswer 2 0 4097 10 ∷ [] ≡ NotOpened (refusal 3 0) ∷ NotOpened (refusal 3 0) ∷ NotOpened (refusal 16 0) ∷ NotOpened (refusal 17 0) ∷ NotOpened (refusal 4 0) ∷ NotOpened (refusal 4 0) ∷ NotOpened (refusal 4 0) ∷ Opened ∷ Opened ∷ NotOpened (refusal 3 0) ∷ NotOpened (refusal 16 0) ∷ []
 unfolding runs
 open-numbers = refl
 
@@ -292,7 +292,7 @@ cover-square : coverOutput S 2 2 (9 ∷ 9 ∷ 9 ∷ 9 ∷ 9 ∷ 9 ∷ 9 ∷ 9 �
 unfolding runs
 cover-square = refl
 
-cover-numbers : coverAnswer S 2 2 6 ∷ coverAnswer S 2 2 5 ∷ coverAnswer S 4 2 6 ∷ coverAnswer S 4 0 6 ∷ coverAnswer wide-tie 1 1 9 ∷ [] ≡ Runs 2 ∷ NotCovered (refusal 12 1) ∷ NotCovered (refusal 9 1) ∷ NotCovered (refusal 3 0) ∷ NotCovered (refusal 10 1) ∷ []
+cover-numbers : coverAnswer S 2 2 6 ∷ coverAnswer S 2 2 5 ∷ coverAnswer S 4 2 6 ∷ coverAnswer S 4 0 6 ∷ coverAnswer wide-tie 1 1 9 ∷ [] ≡ Runs 2 ∷ NotCovered (refusal 12 1) ∷ NotCovered (refusal 9 1) ∷ NotCovered (refusal 16 0) ∷ NotCovered (refusal 10 1) ∷ []
 unfolding runs
 cover-numbers = refl
 
@@ -331,6 +331,15 @@ piece-by-piece : writeAnswer 10 2 10 (2 ∷ 3 ∷ 1 ∷ flat) 999 ∷ writeAnswe
 unfolding runs
 piece-by-piece = refl
 
+-- Width, resolution and columns have a number each, in this order, before 6.
+limits-numbers : readAnswer (sheetBytes 0 0 0 []) 1 ∷ readAnswer (sheetBytes 10 401 0 []) 1 ∷ readAnswer (sheetBytes 10 2 4097 []) 1 ∷ [] ≡ NotRead (refusal 3 0) ∷ NotRead (refusal 16 0) ∷ NotRead (refusal 17 0) ∷ []
+unfolding runs
+limits-numbers = refl
+
+limits-of-a-list : writeAnswer 16001 0 0 [] 0 ∷ writeAnswer 10 0 0 [] 0 ∷ writeAnswer 10 2 0 [] 0 ∷ writeAnswer 10 2 10 [] 0 ∷ [] ≡ NotWritten (refusal 3 0) ∷ NotWritten (refusal 16 0) ∷ NotWritten (refusal 17 0) ∷ NotWritten (refusal 6 0) ∷ []
+unfolding runs
+limits-of-a-list = refl
+
 -- Laying.
 
 -- The printed example: its totals, its output, its text.
@@ -351,8 +360,8 @@ lay-fates : layOutput (sheetBytes 10 2 10 three) [] 26 30 (layAnswer (sheetBytes
 unfolding runs three
 lay-fates = refl
 
--- 15 and 4 of the job.
-lay-numbers : layAnswer (sheetBytes 10 2 10 three) 38 11 30 ∷ layAnswer (sheetBytes 10 2 10 three) 37 12 30 ∷ [] ≡ NotLaid (refusal 15 0) ∷ NotLaid (refusal 4 0) ∷ []
+-- 15, 4 and 17 of the job.
+lay-numbers : layAnswer (sheetBytes 10 2 10 three) 38 11 30 ∷ layAnswer (sheetBytes 10 2 10 three) 37 12 30 ∷ layAnswer (sheetBytes 10 2 0 []) 37 12 30 ∷ [] ≡ NotLaid (refusal 15 0) ∷ NotLaid (refusal 4 0) ∷ NotLaid (refusal 17 0) ∷ []
 unfolding runs three
 lay-numbers = refl
 

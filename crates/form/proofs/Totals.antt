@@ -1,7 +1,7 @@
 -- The walk over all chains: where one is broken, or the count is not the number of records, the strip is not well formed.
 -- Assumes nothing.
 use mathlib.Core.Path.{_≡_, refl, sym, _∙_}
-use mathlib.Core.Logic.{Iff·symm, Iff·trans}
+use mathlib.Core.Logic.{_≢_, Iff·symm, Iff·trans}
 use mathlib.Core.Bool.{Bool, true, false, false≢true}
 use mathlib.Core.List.{List}
 use Prim.Native.Nat.{ℕ, _+_, _≤_, _<_}
@@ -12,9 +12,9 @@ use lib.Dec.{eqb}
 use lib.ListN.{length}
 use Rattle.defs.specs.Meaning.Strip.{widthOf, resolutionOf, columnsOf}
 use Rattle.defs.specs.Meaning.Question.{Question4}
-use Rattle.defs.specs.Computing.Words.{limitsb, lengthb, recordsOf, wellFormedb}
+use Rattle.defs.specs.Computing.Words.{limitsNo, lengthb, recordsOf, wellFormedb}
 use Rattle.laws.proofs.Tests.{Decides}
-use Rattle.laws.proofs.Questions.{question-3, question-4, length-decides}
+use Rattle.laws.proofs.Questions.{limits-none, question-4, length-decides}
 use Rattle.laws.proofs.Complete.{question-5}
 use Rattle.striprecords.specs.declared.Shape.{Shape}
 use Rattle.chains.specs.Form.{ChainOf, Counted, Formed}
@@ -41,18 +41,18 @@ module _ (s : List ℕ) where
   pub short : length s < 4 → wellFormedb s ≡ false
   short l = not-formed (λ f. omega (arith, f .long .words-are))
 
-  pub past-limits : limitsb (widthOf s) (resolutionOf s) (columnsOf s) ≡ false → wellFormedb s ≡ false
-  past-limits e = not-formed (λ f. false≢true (sym e ∙ question-3 _ _ _ .1 (f .limits)))
+  pub past-limits : limitsNo (widthOf s) (resolutionOf s) (columnsOf s) ≢ 0 → wellFormedb s ≡ false
+  past-limits e = not-formed (λ f. e (limits-none _ _ _ .1 (f .limits)))
 
   pub wrong-length : lengthb (columnsOf s) (length s) ≡ false → wellFormedb s ≡ false
   unfolding Question4
   wrong-length e = not-formed (λ f. false≢true (sym e ∙ question-4 _ _ .1 (f .Q, f .long)))
 
-  pub sized : {g : Shape} → limitsb (widthOf s) (resolutionOf s) (columnsOf s) ≡ true →
+  pub sized : {g : Shape} → limitsNo (widthOf s) (resolutionOf s) (columnsOf s) ≡ 0 →
       lengthb (columnsOf s) (length s) ≡ true → g .width ≡ widthOf s → g .columns ≡ columnsOf s →
       g .records ≡ recordsOf (columnsOf s) (length s) → Sized s g
   sized a b w n e =
-      record { width = w; columns = n; limits = question-3 _ _ _ .0 a; long = rw e (length-decides _ _ .0 b) }
+      record { width = w; columns = n; limits = limits-none _ _ _ .0 a; long = rw e (length-decides _ _ .0 b) }
 
 -- Q is the only one that the length fits
 same-records : {s : List ℕ} {g : Shape} → Sized s g → (f : Formed s) → f .Q ≡ g .records

@@ -14,7 +14,7 @@ use Rattle.defs.specs.Computing.Words.{lengthb, recordsOf, written}
 use Rattle.defs.specs.Computing.Calls.{Left}
 use Rattle.defs.specs.Computing.Sheets.{sheetPieces}
 use Rattle.defs.specs.Computing.Lay.{entriesFrom, heldFrom, placedIn, usedIn, entriesWords, layEntries, LayLeaves}
-use Rattle.laws.proofs.Questions.{question-2, question-3, length-decides}
+use Rattle.laws.proofs.Questions.{question-2, limits-none, length-decides}
 use Rattle.tables.specs.Flat.{Flat, tableOf}
 use Rattle.tables.proofs.Flats.{table-apart, table-flat, table-length, count-is}
 use Rattle.tables.proofs.Written.{Writable, written-left}
@@ -70,7 +70,7 @@ pub fresh : {b : List ℕ} {n o : ℕ} {g : Figures} (m : ℕ) (l h f₂ l₂ h�
 fresh {b} {n} {o} {g} m l h f₂ l₂ h₂ j e long lows highs r =
     let limits : Limits (g .width) (g .resolution) (g .columns) =
     subst (λ (g : Figures). Limits (g .width) (g .resolution) (g .columns)) (sym e)
-    (question-3 (sheetW b) (sheetR b) (sheetN b) .0 (j .passed .counted .begun .three)) in
+    (limits-none (sheetW b) (sheetR b) (sheetN b) .0 (j .passed .counted .begun .limits)) in
     let four : lengthb (g .columns) n ≡ true = subst (λ (g : Figures). lengthb (g .columns) n ≡ true) (sym e) (j .four) in
     record {
       width = ap (λ (g : Figures). g .width) e;

@@ -11,7 +11,7 @@ use Rattle.defs.specs.Meaning.Strip.{Limits, Length, widthOf, resolutionOf, col
 use Rattle.defs.specs.Computing.Test.{listFrom, chainBy, endsBy}
 use Rattle.defs.specs.Computing.Words.{recordsOf, occurrences, inColumnb, isFreeb, concat, wellFormedb}
 use Rattle.laws.proofs.Tests.{Decides, leb-decides, ltb-decides, eqb-decides, and-decides, allTo-decides, unless-zero, decides-by}
-use Rattle.laws.proofs.Questions.{question-3, length-decides}
+use Rattle.laws.proofs.Questions.{limits-decides, length-decides}
 use Rattle.laws.proofs.Occurs.{all-occurring-decides, once-is-only-in}
 use Rattle.laws.proofs.Chains.{ends-of, occurs-of, chained-of}
 
@@ -60,7 +60,7 @@ module _ (s : List ℕ) where
         once = h .1 .1 .1 .1;
       })
       (λ p. ((p .long, p .limits), (p .ends, (p .columns, (p .frees, p .once)))))
-      (and-decides (and-decides (length-decides _ _) (question-3 _ _ _))
+      (and-decides (and-decides (length-decides _ _) (limits-decides _ _ _))
       (and-decides (allTo-decides _ _ _ (λ k h. (λ e. e, λ e. e)))
       (and-decides (allTo-decides _ _ _ (λ k h. all-occurring-decides _ _ (column-decides k) _))
       (and-decides (all-occurring-decides _ _ free-decides _) (allTo-decides _ _ _ (λ r h. eqb-decides _ _))))))

@@ -1,9 +1,9 @@
--- The tests of questions 1 to 4, 6 to 9, 15 and of write's 2 decide those questions. 5 is in Complete; a sheet's 6 and 7 are in
+-- The tests of questions 1 to 4, 16 and 17, 6 to 9, 15 and of write's 2 decide those questions. 5 is in Complete; a sheet's 6 and 7 are in
 -- SheetChains.
 -- Assumes nothing.
-use mathlib.Core.Path.{_≡_, ap}
+use mathlib.Core.Path.{_≡_, refl, sym, ap, _∙_}
 use mathlib.Core.Logic.{_↔_}
-use mathlib.Core.Bool.{_&&_}
+use mathlib.Core.Bool.{Bool, true, false, _&&_}
 use mathlib.Core.List.{List, [], _∷_}
 use Prim.Native.Nat.{ℕ, _-_, _≤_}
 use native.Mathlib.Omega.{arith}
@@ -11,12 +11,12 @@ use lib.Dec.{leb, eqb}
 use lib.ListN.{length, getD, take}
 use Rattle.defs.specs.Meaning.Limits.{Between, mostCoordinate, mostMask, mostTurn, mostBytes, mostRecords, mostWidth, mostResolution, mostColumns, leastVertices, mostVertices}
 use Rattle.defs.specs.Meaning.Turn.{Allows}
-use Rattle.defs.specs.Meaning.Strip.{Length}
+use Rattle.defs.specs.Meaning.Strip.{Limits, Length}
 use Rattle.defs.specs.Meaning.Sheet.{Question1, Question2}
-use Rattle.defs.specs.Meaning.Question.{Question2Size, Question3, Question3R, Question4, Question6List, Question7, Question7List, Question8, Question9, Question9Turn, Question15}
-use Rattle.defs.specs.Computing.Test.{all}
+use Rattle.defs.specs.Meaning.Question.{Question2Size, Question3, Question16, Question17, Question4, Question6List, Question7, Question7List, Question8, Question9, Question9Turn, Question15}
+use Rattle.defs.specs.Computing.Test.{ask, all}
 use Rattle.defs.specs.Computing.Cells.{allowedb}
-use Rattle.defs.specs.Computing.Words.{resolutionb, limitsb, recordsOf, lengthb}
+use Rattle.defs.specs.Computing.Words.{widthb, resolutionb, columnsb, limitsb, limitsNo, recordsOf, lengthb}
 use Rattle.defs.specs.Computing.Calls.{q7b, q8b, q9b}
 use Rattle.defs.specs.Computing.Sheets.{q1b, q2b, q6Listb, q7Listb}
 use Rattle.laws.proofs.Tests.{Decides, leb-decides, eqb-decides, and-decides, all-decides, decides-by}
@@ -60,16 +60,43 @@ question-2 b =
 pub question-2-size : (size : ℕ) → Decides (leb size mostBytes) (Question2Size size)
 question-2-size size = leb-decides size mostBytes
 
-pub question-3-R : (R : ℕ) → Decides (resolutionb R) (Question3R R)
-unfolding resolutionb
-question-3-R R = between 1 R mostResolution
+pub question-3 : (W : ℕ) → Decides (widthb W) (Question3 W)
+unfolding widthb
+question-3 W = between 1 W mostWidth
 
-pub question-3 : (W R N : ℕ) → Decides (limitsb W R N) (Question3 W R N)
+pub question-16 : (R : ℕ) → Decides (resolutionb R) (Question16 R)
+unfolding resolutionb
+question-16 R = between 1 R mostResolution
+
+pub question-17 : (N : ℕ) → Decides (columnsb N) (Question17 N)
+unfolding columnsb
+question-17 N = between 1 N mostColumns
+
+-- the three together are a strip's limits
+pub limits-decides : (W R N : ℕ) → Decides (limitsb W R N) (Limits W R N)
 unfolding limitsb
-question-3 W R N =
+limits-decides W R N =
     decides-by (λ h. record { width = h .0; resolution = h .1 .0; columns = h .1 .1 })
     (λ l. (l .width, (l .resolution, l .columns)))
-    (and-decides (between 1 W mostWidth) (and-decides (question-3-R R) (between 1 N mostColumns)))
+    (and-decides (question-3 W) (and-decides (question-16 R) (question-17 N)))
+
+-- none of the three gets "no" exactly where the limits are kept
+limits-by-number : (W R N : ℕ) → eqb (limitsNo W R N) 0 ≡ limitsb W R N
+unfolding limitsb limitsNo
+limits-by-number W R N = go (widthb W) (resolutionb R) (columnsb N)
+  where
+    go : (w r n : Bool) → eqb (ask w 3 λ _. ask r 16 λ _. ask n 17 λ _. 0) 0 ≡ (w && (r && n))
+    go false r n = refl
+    go true false n = refl
+    go true true false = refl
+    go true true true = refl
+
+pub limits-none : (W R N : ℕ) → (limitsNo W R N ≡ 0) ↔ Limits W R N
+limits-none W R N =
+    let by = limits-by-number W R N in
+    let kept = limits-decides W R N in
+    let zero = eqb-decides (limitsNo W R N) 0 in
+    (λ e. kept .0 (sym by ∙ zero .1 e), λ l. zero .0 (by ∙ kept .1 l))
 
 -- the number of records is the only one that a strip's length fits
 pub records-are : (N Q words : ℕ) → Length N Q words → recordsOf N words ≡ Q

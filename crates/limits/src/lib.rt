@@ -1,7 +1,9 @@
-// Questions 3 and 4: the limits of width, resolution, columns and records, and the length of a strip.
+// Questions 3, 16, 17 and 4: the limits of width, resolution, columns and records, and the length of a strip.
 
 ghost use mathlib.Core.Path.{_≡_};
-ghost use Rattle.defs.specs.Computing.Words.{resolutionb, limitsb, lengthb, recordsOf};
+ghost use mathlib.Core.Bool.{_&&_};
+ghost use lib.Dec.{leb};
+ghost use Rattle.defs.specs.Computing.Words.{resolutionb, limitsNo, lengthb, recordsOf};
 
 pub const MOST_WIDTH: u16 = 16000;
 
@@ -33,33 +35,37 @@ pub const HIGH: usize = 2;
 
 pub const NEXT: usize = 3;
 
-// Question 3 of R alone.
-pub fn resolution_fits(r: u16) -> bool
-    ensures { λ a. ⌜ a ≡ resolutionb r ⌝ }
+// Whether x is 1 to `most`.
+fn in_range(x: u16, most: u16) -> bool
+    ensures { λ a. ⌜ a ≡ (leb 1 x && leb x most) ⌝ }
 {
-    if 1 <= r {
-        return r <= numbers::MOST_RESOLUTION;
+    if 1 <= x {
+        return x <= most;
     }
     false
 }
 
-// Question 3.
-pub fn limits_fit(w: u16, r: u16, n: u16) -> bool
-    ensures { λ a. ⌜ a ≡ limitsb w r n ⌝ }
+// Question 16.
+pub fn resolution_fits(r: u16) -> bool
+    ensures { λ a. ⌜ a ≡ resolutionb r ⌝ }
 {
-    if w < 1 {
-        return false;
-    }
-    if MOST_WIDTH < w {
-        return false;
+    in_range(r, numbers::MOST_RESOLUTION)
+}
+
+// The first of questions 3, 16 and 17 that gets "no", else 0.
+pub fn limits_no(w: u16, r: u16, n: u16) -> u16
+    ensures { λ a. ⌜ a ≡ limitsNo w r n ⌝ }
+{
+    if !in_range(w, MOST_WIDTH) {
+        return 3;
     }
     if !resolution_fits(r) {
-        return false;
+        return 16;
     }
-    if n < 1 {
-        return false;
+    if !in_range(n, MOST_COLUMNS) {
+        return 17;
     }
-    n <= MOST_COLUMNS
+    0
 }
 
 // Q of a strip of n columns and so many words.

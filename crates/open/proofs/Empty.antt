@@ -7,9 +7,9 @@ use Prim.Native.Nat.{ℕ, zero, suc, _+_, _<_}
 use native.Mathlib.Omega.{arith}
 use lib.ListN.{getD, replicate, length-replicate}
 use Rattle.defs.specs.Computing.Test.{listFrom}
-use Rattle.defs.specs.Computing.Words.{limitsb, lengthb, recordsOf, written}
+use Rattle.defs.specs.Computing.Words.{limitsNo, lengthb, recordsOf, written}
 use Rattle.defs.specs.Computing.Calls.{Left, openedStrip}
-use Rattle.laws.proofs.Questions.{question-3, length-decides}
+use Rattle.laws.proofs.Questions.{limits-none, length-decides}
 use Rattle.tables.specs.Flat.{rowsFrom, rowsIn, tableOf, Flat}
 use Rattle.tables.proofs.Written.{written-left}
 use Rattle.tables.proofs.Empty.{column-none, empty-writable}
@@ -50,18 +50,18 @@ pub opened-is : (m : ℕ) (l h : List ℕ) (W R N words : ℕ) →
 unfolding openedStrip
 opened-is m l h W R N words = ap (written W R N (recordsOf N words)) (empty-table m l h N)
 
--- what questions 3 and 4 give
-pub room-of : (W R N words : ℕ) → limitsb W R N ≡ true → lengthb N words ≡ true → Room N 0 words
+-- what questions 3, 16, 17 and 4 give
+pub room-of : (W R N words : ℕ) → limitsNo W R N ≡ 0 → lengthb N words ≡ true → Room N 0 words
 room-of W R N words three four =
-    record { columns = question-3 W R N .0 three .columns .at-most; long = four; fits = omega arith }
+    record { columns = limits-none W R N .0 three .columns .at-most; long = four; fits = omega arith }
 
-pub opened-left : (W R N words : ℕ) → limitsb W R N ≡ true → lengthb N words ≡ true →
+pub opened-left : (W R N words : ℕ) → limitsNo W R N ≡ 0 → lengthb N words ≡ true →
     Left W R N words (λ k. []) (openedStrip W R N words)
 unfolding openedStrip
 opened-left W R N words three four =
     let long = length-decides N words .0 four in
     let Q = recordsOf N words in
-    let left = written-left W R N Q (replicate N []) (question-3 W R N .0 three) (long .records) (empty-writable W N Q) in
+    let left = written-left W R N Q (replicate N []) (limits-none W R N .0 three) (long .records) (empty-writable W N Q) in
     record {
       well-formed = left .well-formed;
       long = left .long ∙ sym (long .words-are);

@@ -31,8 +31,9 @@ fn refused(number: u16) -> Opening
 pub fn open(w: u16, r: u16, n: u16, strip: &mut [u16]) -> Opening
     ensures { λ a. ⌜ OpenStep w r n (now (strip .entry)) a (now (strip .exit)) ⌝ }
 {
-    if !limits::limits_fit(w, r, n) {
-        return refused(3);
+    let no = limits::limits_no(w, r, n);
+    if no != 0 {
+        return refused(no);
     }
     if !limits::length_fits(n, strip.len()) {
         return refused(4);

@@ -15,10 +15,11 @@ use Rattle.defs.specs.declared.Reading.{Reading}
 use Rattle.defs.specs.declared.Reading.the-variants.{Read, Refused as NotRead}
 use Rattle.defs.specs.Meaning.Limits.{mostPieces}
 use Rattle.defs.specs.Meaning.Sheet.{sheetW, sheetR, sheetN, sheetV, sheetP, firstPiece, pieceNumber, listWords}
-use Rattle.defs.specs.Computing.Words.{limitsb}
+use Rattle.defs.specs.Computing.Words.{limitsNo}
 use Rattle.defs.specs.Computing.Calls.{refusal}
 use Rattle.defs.specs.Computing.Sheets.{q1b, q2b, pieceOf, pieceRecords, sheetPieces, sheetPieceNo, firstNo, sheetNo, readAnswer, readOutput, ReadStep}
-use Rattle.laws.proofs.Questions.{question-1, question-2, question-3}
+use Rattle.laws.proofs.Questions.{question-1, question-2, limits-none}
+use Rattle.laws.proofs.Tests.{pos-not-zero}
 use Rattle.laws.proofs.Walks.{chain-few}
 use Rattle.sheets.proofs.Asking.{asked, not-zero, first-none}
 use Rattle.sheets.proofs.Answers.{said, passed, figuresOf, read-grants}
@@ -28,19 +29,19 @@ use Rattle.pieceno.specs.Refused.{FirstRefused}
 use Rattle.reads.specs.Steps.{Begun, Counted, Passed, fourthOf, JobRefused}
 use Rattle.reads.specs.declared.Strip.{Strip}
 
--- what was read for 3
+-- what was read for 3, 16 and 17
 
 pub figures-are : (b : List ℕ) {w r n : ℕ} → w ≡ sheetW b → r ≡ sheetR b → n ≡ sheetN b →
     _≡_ {A = Figures} (record { width = w; resolution = r; columns = n }) (figuresOf b)
 figures-are b e f g = rw (e, f, g)
 
-pub limits-are : (b : List ℕ) (f : Figures) {t : Bool} → f ≡ figuresOf b → t ≡ limitsb (f .width) (f .resolution) (f .columns) →
-    limitsb (sheetW b) (sheetR b) (sheetN b) ≡ t
-limits-are b f e h = ap (λ (f : Figures). limitsb (f .width) (f .resolution) (f .columns)) (sym e) ∙ sym h
+pub limits-are : (b : List ℕ) (f : Figures) {n : ℕ} → f ≡ figuresOf b → n ≡ limitsNo (f .width) (f .resolution) (f .columns) →
+    limitsNo (sheetW b) (sheetR b) (sheetN b) ≡ n
+limits-are b f e h = ap (λ (f : Figures). limitsNo (f .width) (f .resolution) (f .columns)) (sym e) ∙ sym h
 
 pub begun-by : (b : List ℕ) {f : Figures} → q1b b ≡ true → q2b b ≡ true → f ≡ figuresOf b →
-    true ≡ limitsb (f .width) (f .resolution) (f .columns) → Begun b
-begun-by b {f} e g h l = record { one = e; two = g; three = limits-are b f h l }
+    0 ≡ limitsNo (f .width) (f .resolution) (f .columns) → Begun b
+begun-by b {f} e g h l = record { one = e; two = g; limits = limits-are b f h l }
 
 -- what the questions passed give
 
@@ -51,7 +52,7 @@ pub in-sheet : {b : List ℕ} → Begun b → 16 + 6 * (sheetV b + sheetP b) ≤
 in-sheet {b} s = omega (arith, question-2 b .0 (s .two) .fits)
 
 pub resolution : {b : List ℕ} → Begun b → 1 ≤ sheetR b
-resolution {b} s = question-3 (sheetW b) (sheetR b) (sheetN b) .0 (s .three) .resolution .at-least
+resolution {b} s = limits-none (sheetW b) (sheetR b) (sheetN b) .0 (s .limits) .resolution .at-least
 
 pub chain-ends : {b : List ℕ} {v count : ℕ} → Counted b count → v ≡ sheetV b → ChainEnds b v
 chain-ends s e = record { vertices = e; in-sheet = in-sheet (s .begun); passes = s .six }
@@ -93,21 +94,22 @@ pub no-2 : {b : List ℕ} (fourth : Bool) → q1b b ≡ true → q2b b ≡ false
 unfolding sheetNo
 no-2 fourth e f = record { is = rw (e, f) }
 
-pub no-3 : {b : List ℕ} (fourth : Bool) → q1b b ≡ true → q2b b ≡ true → limitsb (sheetW b) (sheetR b) (sheetN b) ≡ false → JobRefused b fourth 3 0
+pub no-limits : {b : List ℕ} {n : ℕ} (fourth : Bool) → q1b b ≡ true → q2b b ≡ true → limitsNo (sheetW b) (sheetR b) (sheetN b) ≡ n → 0 < n →
+    JobRefused b fourth n 0
 unfolding sheetNo
-no-3 fourth e f g = record { is = rw (e, f, g) }
+no-limits {n = n} fourth e f g h = record { is = rw (e, f, g, pos-not-zero n h) }
 
 pub no-4 : {b : List ℕ} {fourth : Bool} → Begun b → fourth ≡ false → JobRefused b fourth 4 0
 unfolding sheetNo
-no-4 s e = record { is = rw (s .one, s .two, s .three, e) }
+no-4 s e = record { is = rw (s .one, s .two, s .limits, e) }
 
 pub no-6 : {b : List ℕ} → Begun b → PiecesIll b → JobRefused b true 6 0
 unfolding sheetNo
-no-6 s i = record { is = rw (s .one, s .two, s .three, i .fails) }
+no-6 s i = record { is = rw (s .one, s .two, s .limits, i .fails) }
 
 pieces-no : {b : List ℕ} {count : ℕ} → Counted b count → sheetNo b true ≡ firstNo (sheetPieceNo b) 1 (pieceRecords b)
 unfolding sheetNo
-pieces-no s = rw (s .begun .one, s .begun .two, s .begun .three, s .six)
+pieces-no s = rw (s .begun .one, s .begun .two, s .begun .limits, s .six)
 
 pub no-piece : {b : List ℕ} {count n k : ℕ} → Counted b count → FirstRefused b n k → JobRefused b true n k
 no-piece s f = record { is = pieces-no s ∙ f .is }

@@ -7,7 +7,7 @@ use mathlib.Core.Option.{some}
 use Prim.Native.Nat.{ℕ}
 use lib.ListN.{length}
 use Rattle.defs.specs.Meaning.Sheet.{sheetW, sheetR, sheetN}
-use Rattle.defs.specs.Computing.Words.{limitsb, lengthb}
+use Rattle.defs.specs.Computing.Words.{limitsNo, lengthb}
 use Rattle.defs.specs.Computing.Calls.{refusal}
 use Rattle.defs.specs.Computing.Sheets.{q1b, q2b, q6b, pieceRecords, sheetNo}
 use Rattle.reads.specs.declared.Strip.{Strip}
@@ -16,11 +16,11 @@ use Rattle.reads.specs.declared.Job.{Job}
 use Rattle.reads.specs.declared.Job.the-variants.{Pieces, No as Refused}
 use Rattle.pieceno.specs.Refused.{NoneRefused}
 
--- 1 to 3 are passed
+-- 1 to 3, 16 and 17 are passed
 pub record Begun (b : List ℕ) : Type 0 where
   pub one : q1b b ≡ true
   pub two : q2b b ≡ true
-  pub three : limitsb (sheetW b) (sheetR b) (sheetN b) ≡ true
+  pub limits : limitsNo (sheetW b) (sheetR b) (sheetN b) ≡ 0
 
 -- 6 is passed by `count` pieces
 pub record Counted (b : List ℕ) (count : ℕ) : Type 0 where

@@ -80,7 +80,7 @@ fn ask_chain(sheet: &[u8]) -> Job
     }
 }
 
-// Questions 1 to 3, 4 where a strip is lent, and 6 to 11.
+// Questions 1 to 3, 16 and 17, 4 where a strip is lent, and 6 to 11.
 pub fn ask(sheet: &[u8], strip: Strip) -> Job
     ensures { λ a. ⌜ JobAsked (now (sheet .entry)) (fourthOf strip (sheetN (now (sheet .entry)))) a ⌝ }
 {
@@ -91,8 +91,9 @@ pub fn ask(sheet: &[u8], strip: Strip) -> Job
         return Job::No(2, 0);
     }
     let f = figures_of(sheet);
-    if !limits::limits_fit(f.width, f.resolution, f.columns) {
-        return Job::No(3, 0);
+    let no = limits::limits_no(f.width, f.resolution, f.columns);
+    if no != 0 {
+        return Job::No(no, 0);
     }
     if !fourth(strip, f.columns) {
         return Job::No(4, 0);

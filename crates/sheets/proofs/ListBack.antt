@@ -7,16 +7,18 @@ use mathlib.Core.Option.{none}
 use mathlib.Core.List.{List, [], _∷_, _++_, append-assoc, map}
 use Prim.Native.Nat.{ℕ, zero, suc, _+_, _*_, _/_, _≤_}
 use native.Mathlib.Omega.{arith}
+use lib.Dec.{eqb}
+use borrow.Author.Tests.{eqb-true}
 use lib.ListN.{length, getD, take, drop, take-append-drop, length-append}
 use lib.Seq.{length-take-le, take-append-seam, drop-append-seam}
 use Rattle.defs.specs.Meaning.Limits.{mostPieces}
 use Rattle.defs.specs.Meaning.Strip.{Limits}
 use Rattle.defs.specs.Meaning.Sheet.{Piece, pieceWords, piecesWords, listWords, ListHolds}
 use Rattle.defs.specs.Meaning.Question.{Question6List, Question7List}
-use Rattle.defs.specs.Computing.Words.{limitsb}
+use Rattle.defs.specs.Computing.Words.{limitsNo}
 use Rattle.defs.specs.Computing.Calls.{q9b, outlineNo}
 use Rattle.defs.specs.Computing.Sheets.{q6Listb, q7Listb, firstNo, listTails, listPiece, listPieceNo, listPieces, listNo}
-use Rattle.laws.proofs.Questions.{question-3, question-6-list, question-7-list}
+use Rattle.laws.proofs.Questions.{limits-none, question-6-list, question-7-list}
 use Rattle.sheets.proofs.PiecesBack.{Each, nothing-left, and-more, Shaped}
 use Rattle.sheets.proofs.Asking.{asked, some-none, not-zero, first-none, PiecePasses, shaped}
 
@@ -76,10 +78,10 @@ pub record Accepted (W R N : ℕ) (ws : List ℕ) : Type 0 where
 pub accepted : (W R N : ℕ) (ws : List ℕ) → listNo W R N ws ≡ none → Accepted W R N ws
 unfolding listNo
 accepted W R N ws e =
-    let e3 = asked (limitsb W R N) _ e some-none in
+    let e3 = asked (eqb (limitsNo W R N) 0) _ e some-none in
     let e6 = asked (q6Listb ws) _ (e3 .1) some-none in
     record {
-      limits = question-3 W R N .0 (e3 .0);
+      limits = limits-none W R N .0 (eqb-true (limitsNo W R N) 0 (e3 .0));
       count = question-6-list ws .0 (e6 .0);
       pieces = pieces-in R 1 (getD ws 0 0) (drop 1 ws) (e6 .1);
     }
@@ -182,7 +184,7 @@ module _
   unfolding listNo
   words-accepted =
       rw (
-        question-3 W R N .1 limits,
+        limits-none W R N .1 limits,
         question-6-list (listWords ps ++ rest) .1 (record { count-word = omega arith; most = few }),
       ) (listed R 1 rest passes .none-no)
 

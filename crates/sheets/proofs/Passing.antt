@@ -6,15 +6,17 @@ use mathlib.Core.Option.{none}
 use mathlib.Core.List.{List, [], _∷_, map}
 use Prim.Native.Nat.{ℕ, _+_, _≤_}
 use native.Mathlib.Omega.{arith}
+use lib.Dec.{eqb}
+use borrow.Author.Tests.{eqb-true}
 use lib.ListN.{length, length-map}
 use Rattle.defs.specs.Meaning.Limits.{mostVertices, mostPieces}
 use Rattle.defs.specs.Meaning.Sheet.{vertexNumber, pieceNumber, sheetW, sheetR, sheetN, sheetV, sheetP, firstPiece, vertexWords, Piece, VertexChain, Pieces, no-more, one-more, SheetHolds}
 use Rattle.defs.specs.Meaning.Question.{Question7Sheet}
 use Rattle.defs.specs.Computing.Test.{endsBy}
-use Rattle.defs.specs.Computing.Words.{limitsb}
+use Rattle.defs.specs.Computing.Words.{limitsNo}
 use Rattle.defs.specs.Computing.Sheets.{q1b, q2b, q6b, pieceRecords, verticesOf, pieceOf, sheetPieceNo, firstNo, sheetNo, sheetPieces}
 use Rattle.laws.proofs.Tests.{and-both}
-use Rattle.laws.proofs.Questions.{question-1, question-2, question-3}
+use Rattle.laws.proofs.Questions.{question-1, question-2, limits-none}
 use Rattle.laws.proofs.Walks.{chain-few}
 use Rattle.laws.proofs.SheetChains.{chain-of, chain-ends, chain-is, question-7-sheet}
 use Rattle.sheets.proofs.PiecesBack.{Each, nothing-left, and-more}
@@ -60,7 +62,7 @@ module _ {b : List ℕ} {ps : List Piece} (h : SheetHolds b ps) where
       rw (
         question-1 b .1 (h .q1),
         question-2 b .1 (h .q2),
-        question-3 (sheetW b) (sheetR b) (sheetN b) .1 (h .q3),
+        limits-none (sheetW b) (sheetR b) (sheetN b) .1 (h .limits),
         holds-6,
         records-are,
       ) (none-refused 1 (h .pieces) s)
@@ -107,7 +109,7 @@ unfolding sheetNo sheetPieces pieceRecords q6b
 none-held b e =
     let e1 = asked (q1b b) _ e some-none in
     let e2 = asked (q2b b) _ (e1 .1) some-none in
-    let e3 = asked (limitsb (sheetW b) (sheetR b) (sheetN b)) _ (e2 .1) some-none in
+    let e3 = asked (eqb (limitsNo (sheetW b) (sheetR b) (sheetN b)) 0) _ (e2 .1) some-none in
     let e6 = asked (q6b b) _ (e3 .1) some-none in
     let i = pieces-held b 1 (pieceRecords b) (e6 .1) in
     record {
@@ -115,7 +117,7 @@ none-held b e =
           record {
             q1 = question-1 b .0 (e1 .0);
             q2 = question-2 b .0 (e2 .0);
-            q3 = question-3 (sheetW b) (sheetR b) (sheetN b) .0 (e3 .0);
+            limits = limits-none (sheetW b) (sheetR b) (sheetN b) .0 (eqb-true (limitsNo (sheetW b) (sheetR b) (sheetN b)) 0 (e3 .0));
             records = pieceRecords b;
             q6 =
                 record {

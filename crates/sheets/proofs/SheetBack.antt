@@ -98,7 +98,7 @@ sheet-back W R N ps l s few size =
             fits = sheet-long W R N ps ∙ omega (arith, back-V W R N ps, back-P W R N ps);
             most = omega (arith, sheet-long W R N ps);
           };
-      q3 = rw (back-W W R N ps, back-R W R N ps, back-N W R N ps) l;
+      limits = rw (back-W W R N ps, back-R W R N ps, back-N W R N ps) l;
       records = c .records;
       q6 = record { chain = c .chain; most = omega (arith, c .long) };
       pieces = c .pieces;

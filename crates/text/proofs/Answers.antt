@@ -6,6 +6,7 @@ use mathlib.Core.Option.{none, some}
 use mathlib.Core.List.{List, [], _∷_, _++_}
 use Prim.Native.Nat.{ℕ, _+_, _*_, _≤_}
 use native.Mathlib.Omega.{arith}
+use lib.Dec.{eqb}
 use lib.ListN.{length, take, drop, length-append, length-map}
 use lib.Seq.{sets-eq, take-at, length-take-le}
 use Rattle.defs.specs.declared.Refusal.{Refusal}
@@ -16,7 +17,7 @@ use Rattle.defs.specs.declared.Laying.the-variants.{Laid, Refused as NotLaid}
 use Rattle.defs.specs.Meaning.Limits.{mostPieces}
 use Rattle.defs.specs.Meaning.Sheet.{sheetW, sheetR, sheetN}
 use Rattle.defs.specs.Computing.Ascii.{ascii}
-use Rattle.defs.specs.Computing.Words.{limitsb, lengthb}
+use Rattle.defs.specs.Computing.Words.{limitsNo, lengthb}
 use Rattle.defs.specs.Computing.Sheets.{q1b, q2b, q6b, pieceOf, pieceRecords, sheetPieces, sheetNo}
 use Rattle.defs.specs.Computing.Lay.{entriesWords, layEntries, layAnswer, layOutput, LayStep}
 use Rattle.defs.specs.Computing.Text.{spaced, line, entryLines, programStrip, programWork, layText}
@@ -86,7 +87,7 @@ unfolding sheetNo
 passes {b} fourth e =
     let e1 = asked (q1b b) _ e some-none in
     let e2 = asked (q2b b) _ (e1 .1) some-none in
-    let e3 = asked (limitsb (sheetW b) (sheetR b) (sheetN b)) _ (e2 .1) some-none in
+    let e3 = asked (eqb (limitsNo (sheetW b) (sheetR b) (sheetN b)) 0) _ (e2 .1) some-none in
     let e4 = asked fourth _ (e3 .1) some-none in
     let e6 = asked (q6b b) _ (e4 .1) some-none in
     record { two = question-2 b .0 (e2 .0) .fits; six = e6 .0 }

@@ -115,19 +115,25 @@ fn put_refused(out: &mut [u8], r: Refusal, line: u16) -> Made
     Made::Message(put_place(out, a, line))
 }
 
-// The line that a refusal is about: of the strip for question 3, of the piece where there is one, else 0.
-fn refused_line(r: Refusal, strip: u16, lines: &[u16]) -> u16 {
-    if r.number == 3 {
-        return strip;
-    }
-    if r.ordinal == 0 {
+// The line of a piece, 0 where there is none.
+fn piece_line(ordinal: u16, lines: &[u16]) -> u16 {
+    if ordinal == 0 {
         return 0;
     }
-    let k = r.ordinal as usize - 1;
+    let k = ordinal as usize - 1;
     if lines.len() <= k {
         return 0;
     }
     lines[k]
+}
+
+// The line that a refusal is about: of the strip for 3, 16 and 17, of the piece where there is one, else 0.
+fn refused_line(r: Refusal, strip: u16, lines: &[u16]) -> u16 {
+    let number = r.number;
+    match number {
+        3 | 16 | 17 => strip,
+        _ => piece_line(r.ordinal, lines),
+    }
 }
 
 // A sheet of n bytes in so much room.

@@ -14,10 +14,11 @@ use borrow.Author.Tests.{le-leb, lt-leb}
 use Rattle.defs.specs.declared.Writing.{Writing}
 use Rattle.defs.specs.declared.Writing.the-variants.{Written, Refused as NotWritten}
 use Rattle.defs.specs.Meaning.Limits.{mostBytes}
-use Rattle.defs.specs.Computing.Words.{limitsb}
+use Rattle.defs.specs.Computing.Words.{limitsNo}
 use Rattle.defs.specs.Computing.Calls.{refusal}
 use Rattle.defs.specs.Computing.Sheets.{sizeOf, sheetBytes, listTails, listPieces, listPieceNo, listNo, q6Listb, firstNo, writeAnswer, writeOutput, WriteStep}
-use Rattle.laws.proofs.Questions.{question-3, question-6-list}
+use Rattle.laws.proofs.Tests.{pos-not-zero}
+use Rattle.laws.proofs.Questions.{limits-none, question-6-list}
 use Rattle.sheets.proofs.Asking.{first-none}
 use Rattle.sheets.proofs.ListBack.{complete}
 use Rattle.sheets.proofs.SheetBack.{sheet-long}
@@ -47,19 +48,19 @@ count-few {list = list} s = question-6-list list .0 (s .six) .most
 -- the first "no"
 
 resolution : {W R N : ℕ} {list : List ℕ} → Begun W R N list → 1 ≤ R
-resolution {W} {R} {N} s = question-3 W R N .0 (s .three) .resolution .at-least
+resolution {W} {R} {N} s = limits-none W R N .0 (s .limits) .resolution .at-least
 
-pub no-3 : (W R N : ℕ) (list : List ℕ) → limitsb W R N ≡ false → listNo W R N list ≡ some (refusal 3 0)
+pub no-limits : (W R N : ℕ) (list : List ℕ) {n : ℕ} → n ≡ limitsNo W R N → 0 < n → listNo W R N list ≡ some (refusal n 0)
 unfolding listNo
-no-3 W R N list e = rw e
+no-limits W R N list {n} e h = rw (← e, pos-not-zero n h)
 
-pub no-6 : (W R N : ℕ) (list : List ℕ) → limitsb W R N ≡ true → q6Listb list ≡ false → listNo W R N list ≡ some (refusal 6 0)
+pub no-6 : (W R N : ℕ) (list : List ℕ) → limitsNo W R N ≡ 0 → q6Listb list ≡ false → listNo W R N list ≡ some (refusal 6 0)
 unfolding listNo
 no-6 W R N list e f = rw (e, f)
 
 pieces-no : {W R N : ℕ} {list : List ℕ} → Begun W R N list → listNo W R N list ≡ firstRefusal R list
 unfolding listNo
-pieces-no s = rw (s .three, s .six)
+pieces-no s = rw (s .limits, s .six)
 
 pub no-piece-of : {W R N : ℕ} {list : List ℕ} {n k : ℕ} → Begun W R N list → FirstRefused list n k → listNo W R N list ≡ some (refusal n k)
 no-piece-of {R = R} s f = pieces-no s ∙ f .every R (resolution s)

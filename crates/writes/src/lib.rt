@@ -43,7 +43,7 @@ fn write_sheet(w: u16, r: u16, n: u16, list: &[u16], v: usize, out: &mut [u8]) -
     Writing::Written(size as u32)
 }
 
-// Questions 7 to 11 of a list that passes 3 and 6, and what follows.
+// Questions 7 to 11 of a list that passes 3, 16, 17 and 6, and what follows.
 fn write_pieces(w: u16, r: u16, n: u16, list: &[u16], out: &mut [u8]) -> Writing
     requires { ⌜ Begun w r n (now list) ⌝ }
     ensures { λ a. ⌜ WriteStep w r n (now (list .entry)) (now (out .entry)) a (now (out .exit)) ⌝ }
@@ -58,8 +58,9 @@ fn write_pieces(w: u16, r: u16, n: u16, list: &[u16], out: &mut [u8]) -> Writing
 pub fn write(w: u16, r: u16, n: u16, list: &[u16], out: &mut [u8]) -> Writing
     ensures { λ a. ⌜ WriteStep w r n (now (list .entry)) (now (out .entry)) a (now (out .exit)) ⌝ }
 {
-    if !limits::limits_fit(w, r, n) {
-        return refused(3, 0);
+    let no = limits::limits_no(w, r, n);
+    if no != 0 {
+        return refused(no, 0);
     }
     if !count_fits(list) {
         return refused(6, 0);

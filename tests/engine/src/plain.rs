@@ -206,7 +206,7 @@ pub fn ask_7_and_8(outline: &[u16]) -> Result<(), Refusal> {
 
 pub fn cover(outline: &[u16], turn: u16, r: u16, output: &mut [u16]) -> Result<u32, Refusal> {
     if !(1..=400).contains(&r) {
-        return Err(no(3, 0));
+        return Err(no(16, 0));
     }
     ask_7_and_8(outline)?;
     if turn > 3 {

@@ -8,7 +8,7 @@ use reference::{Position, Refusal};
 /// A run of a column, rows low to high−1.
 type Stretch = (u16, u16);
 
-/// A strip that has passed questions 3 to 5.
+/// A strip that has passed questions 3 to 5, 16 and 17.
 pub struct Board {
     w: u16,
     r: u16,

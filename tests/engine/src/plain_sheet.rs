@@ -15,10 +15,18 @@ fn number(bytes: &[u8], place: usize) -> u16 {
     u16::from_le_bytes([bytes[place], bytes[place + 1]])
 }
 
-fn in_limits(of: Figures) -> bool {
-    (1..=16_000).contains(&of.width)
-        && (1..=400).contains(&of.resolution)
-        && (1..=4_096).contains(&of.columns)
+/// Questions 3, 16 and 17.
+fn ask_limits(of: Figures) -> Result<(), Refusal> {
+    for (number, figure, most) in [
+        (3, of.width, 16_000),
+        (16, of.resolution, 400),
+        (17, of.columns, 4_096),
+    ] {
+        if !(1..=most).contains(&figure) {
+            return Err(no(number, 0));
+        }
+    }
+    Ok(())
 }
 
 /// Questions 7 to 11 of one piece.
@@ -84,9 +92,7 @@ pub fn read(sheet: &[u8], output: &mut [u16]) -> Result<Figures, Refusal> {
         resolution: number(sheet, 6),
         columns: number(sheet, 8),
     };
-    if !in_limits(of) {
-        return Err(no(3, 0));
-    }
+    ask_limits(of)?;
     let (vertices, pieces) = sheet[HEAD..].split_at(vertex_bytes);
     let (vertices, pieces) = (Records { bytes: vertices }, Records { bytes: pieces });
     let chain = pieces
@@ -127,9 +133,7 @@ fn pieces_of(list: &[u16]) -> Result<Vec<(&[u16], u16)>, Refusal> {
 }
 
 pub fn write(of: Figures, list: &[u16], output: &mut [u8]) -> Result<u32, Refusal> {
-    if !in_limits(of) {
-        return Err(no(3, 0));
-    }
+    ask_limits(of)?;
     let pieces = pieces_of(list)?;
     let vertices: usize = pieces.iter().map(|piece| piece.0.len() / 2).sum();
     let size = HEAD + RECORD * (vertices + pieces.len());

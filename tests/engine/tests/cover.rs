@@ -5,8 +5,9 @@ use engine::guard::Guarded;
 use engine::{data, plain};
 use reference::generate::{any_outline, any_resolution, any_turn, outline, OutlineKind, Random};
 
-/// One call on both, with an output of so many words.
-fn same(words: &[u16], turn: u16, r: u16, room: usize) {
+/// One call on both, with an output of so many words; the number it answers, 0
+/// for granted.
+fn same(words: &[u16], turn: u16, r: u16, room: usize) -> usize {
     let before: Vec<u16> = (0..room).map(|i| i as u16 ^ 0x5A5A).collect();
     let mut expected = before.clone();
     let answer = reference::cover(words, turn, r, &mut expected);
@@ -29,10 +30,11 @@ fn same(words: &[u16], turn: u16, r: u16, room: usize) {
         "plain: {words:?} turn {turn} R {r}"
     );
     assert_eq!(quick, expected, "plain");
+    answer.map_or_else(|refusal| usize::from(refusal.number), |_| 0)
 }
 
-/// Rooms that are right, short by one, longer, and any.
-fn rooms(random: &mut Random, words: &[u16], turn: u16, r: u16) {
+/// Rooms that are right, short by one, longer, and any; the number answered.
+fn rooms(random: &mut Random, words: &[u16], turn: u16, r: u16) -> usize {
     let mut large = vec![0; 6_000];
     let needed = match reference::cover(words, turn, r, &mut large) {
         Ok(runs) => 3 * runs as usize,
@@ -44,12 +46,13 @@ fn rooms(random: &mut Random, words: &[u16], turn: u16, r: u16) {
         2 => random.index(needed + 1),
         _ => needed,
     };
-    same(words, turn, r, room);
+    same(words, turn, r, room)
 }
 
 #[test]
 fn small_outlines_of_every_kind() {
     let mut random = Random::new(11);
+    let mut numbers = [0; 18];
     for i in 0..110_000 {
         let kind = OutlineKind::ALL[i % OutlineKind::ALL.len()];
         if kind == OutlineKind::AtLimit {
@@ -62,7 +65,11 @@ fn small_outlines_of_every_kind() {
         };
         let words = outline(&mut random, kind, size);
         let (turn, r) = (any_turn(&mut random), any_resolution(&mut random));
-        rooms(&mut random, &words, turn, r);
+        numbers[rooms(&mut random, &words, turn, r)] += 1;
+    }
+    println!("numbers {numbers:?}");
+    for number in [0, 16, 7, 8, 9, 10, 11, 12] {
+        assert!(numbers[number] > 1_000, "{number}: {numbers:?}");
     }
 }
 

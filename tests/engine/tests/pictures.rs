@@ -97,8 +97,8 @@ fn samples_and_seeds() {
             pictures.draw(&std::fs::read(path).expect("a sheet"));
         }
     }
-    assert!(pictures.pictures.len() >= 33);
-    assert!(pictures.with(">job refused ") >= 16);
+    assert!(pictures.pictures.len() >= 34);
+    assert!(pictures.with(">job refused ") >= 17);
     let wallets = include_str!("../../../docs/wallets.svg");
     assert_eq!(pictures.with(wallets), 1);
 }
@@ -183,7 +183,7 @@ fn damaged_sheets() {
             assert!(picture.contains(&format!(">{}<", damaged.refusal)));
         }
     }
-    for number in [1, 2, 3, 6, 7, 8, 9, 10, 11] {
+    for number in [1, 2, 3, 16, 17, 6, 7, 8, 9, 10, 11] {
         assert!(pictures.with(&format!(">job refused {number} ")) >= 5);
     }
     for _ in 0..50 {

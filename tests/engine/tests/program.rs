@@ -95,7 +95,7 @@ fn damaged_sheets() {
         }
     }
     assert!(runs.texts.len() >= 900);
-    for number in [1, 2, 3, 6, 7, 8, 9, 10, 11] {
+    for number in [1, 2, 3, 16, 17, 6, 7, 8, 9, 10, 11] {
         assert!(runs.with(&format!("job refused {number} ")) >= 30);
     }
 }
@@ -105,7 +105,7 @@ fn damaged_sheets() {
 fn any_figures_and_bytes() {
     let mut runs = Runs::default();
     let mut random = Random::new(103);
-    for _ in 0..150 {
+    for _ in 0..200 {
         let figures = any_figures(&mut random);
         let pieces = sound_pieces(&mut random, 3, 8);
         runs.run(&SheetPlan::shuffled(&mut random, figures, &pieces, true).bytes());
@@ -114,7 +114,10 @@ fn any_figures_and_bytes() {
         sheet[place] = random.word(0, 255) as u8;
         runs.run(&sheet);
     }
-    assert!(runs.with("strip") > 100 && runs.with("job refused 3 0") > 50);
+    assert!(runs.with("strip") > 100);
+    for number in [3, 16, 17] {
+        assert!(runs.with(&format!("job refused {number} 0")) > 20);
+    }
 }
 
 /// Empty input, input of every length up to a whole sheet, and input longer than a

@@ -27,7 +27,7 @@ const LARGEST: Figures = Figures {
 };
 
 /// How often each number came; 0 is granted.
-type Numbers = [u32; 16];
+type Numbers = [u32; 18];
 
 /// The engine beside the reference program, on one call after another.
 struct Both {
@@ -75,8 +75,8 @@ impl Both {
             words: Room::new(LONGEST_LIST + 10),
             list: Room::new(LONGEST_LIST + 10),
             bytes: Room::new(80_000),
-            reads: [0; 16],
-            writes: [0; 16],
+            reads: [0; 18],
+            writes: [0; 18],
             taken: 0,
             rounds: 0,
             too_long: 0,
@@ -257,7 +257,7 @@ fn damaged_sheets() {
             both.taken += 1;
         }
     }
-    both.came(32_000, 1_000, &[1, 2, 3, 6, 7, 8, 9, 10, 11], &[]);
+    both.came(32_000, 1_000, &[1, 2, 3, 16, 17, 6, 7, 8, 9, 10, 11], &[]);
 }
 
 /// Sheets with one number changed, in each of their places, by one and to what
@@ -275,7 +275,12 @@ fn each_number_changed() {
             both.take_sheet(&mut random, &changed, ENOUGH);
         }
     }
-    both.came(40_000, 30, &[0, 1, 2, 3, 6, 7, 8, 9, 10, 11, 15], &[0]);
+    both.came(
+        40_000,
+        30,
+        &[0, 1, 2, 3, 16, 17, 6, 7, 8, 9, 10, 11, 15],
+        &[0],
+    );
 }
 
 /// Sheets with several numbers changed, so that several questions get "no".
@@ -296,7 +301,12 @@ fn several_numbers_changed() {
         }
         both.take_sheet(&mut random, &sheet, ENOUGH);
     }
-    both.came(30_000, 30, &[0, 1, 2, 3, 6, 7, 8, 9, 10, 11, 15], &[0]);
+    both.came(
+        30_000,
+        30,
+        &[0, 1, 2, 3, 16, 17, 6, 7, 8, 9, 10, 11, 15],
+        &[0],
+    );
 }
 
 /// Sheets of pieces that pass and pieces that do not, in any order: the first
@@ -457,14 +467,14 @@ fn sound_lists() {
     let mut both = Both::new();
     let mut random = Random::new(71);
     for _ in 0..15_000 {
-        let figures = match random.index(3) {
+        let figures = match random.index(2) {
             0 => any_figures(&mut random),
             _ => small_figures(&mut random),
         };
         let list = sound_list(&mut random);
         both.take_list(&mut random, figures, &list, 4_000);
     }
-    both.came(15_000, 1_000, &[0], &[0, 3, 15]);
+    both.came(15_000, 1_000, &[0], &[0, 3, 16, 17, 15]);
 }
 
 /// Lists with nothing wrong but one thing, with bytes enough, few and none.

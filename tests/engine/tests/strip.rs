@@ -286,7 +286,7 @@ fn large_strips() {
 #[test]
 fn open_at_every_limit() {
     let mut both = Both::new();
-    let mut numbers = [0; 5];
+    let mut numbers = [0; 18];
     for w in [0, 1, 2, 15_999, 16_000, 16_001, 32_768, 65_535] {
         for r in [0, 1, 2, 399, 400, 401, 65_535] {
             for n in [0, 1, 2, 4_095, 4_096, 4_097, 65_535] {
@@ -304,10 +304,11 @@ fn open_at_every_limit() {
             }
         }
     }
-    println!("granted, 3 and 4: {numbers:?}");
+    println!("granted, 3, 4, 16 and 17: {numbers:?}");
     // Four each of W, R and N in their limits with Q 1 and 2; four N with Q 15,999 and 16,000.
     assert_eq!(numbers[0], 4 * 4 * 4 * 2 + 4 * 2);
-    assert!(numbers[3] > 7_000 && numbers[4] > 1_200);
+    assert!(numbers[3] > 4_000 && numbers[16] > 1_800 && numbers[17] > 1_000);
+    assert!(numbers[4] > 1_200);
 }
 
 #[test]
@@ -328,7 +329,7 @@ fn open_with_every_length() {
 fn open_with_any_figures() {
     let mut both = Both::new();
     let mut random = Random::new(24);
-    let mut granted = 0;
+    let mut numbers = [0; 18];
     for _ in 0..20_000 {
         let figures = any_figures(&mut random);
         let (w, r, n) = (figures.width, figures.resolution, figures.columns);
@@ -337,10 +338,14 @@ fn open_with_any_figures() {
             0 => random.index(300),
             _ => 4 + usize::from(n.min(4_097)) + 4 * q,
         };
-        granted += u32::from(both.open(w, r, n, words).is_ok());
+        let answer = both.open(w, r, n, words);
+        numbers[answer.map_or_else(|no| usize::from(no.number), |()| 0)] += 1;
     }
-    println!("granted {granted}");
-    assert!(granted > 3_000);
+    println!("granted, 3, 4, 16 and 17: {numbers:?}");
+    assert!(numbers[0] > 3_000);
+    for number in [3, 16, 17, 4] {
+        assert!(numbers[number] > 2_000, "{number}");
+    }
 }
 
 /// An opened strip is well formed and has no run, whatever words it had.

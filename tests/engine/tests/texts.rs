@@ -10,7 +10,7 @@ use reference::text::{sheet_of_text, text_of_sheet};
 use std::collections::BTreeMap;
 
 /// The messages of program `sheet` about a text, and its refusals of a job.
-const MESSAGES: [&str; 21] = [
+const MESSAGES: [&str; 23] = [
     "a line begins with strip, piece or mm",
     "a number is expected",
     "a number is at most 65535 units",
@@ -28,6 +28,8 @@ const MESSAGES: [&str; 21] = [
     "a text has at most 262144 bytes",
     "job refused 2 0",
     "job refused 3 0",
+    "job refused 16 0",
+    "job refused 17 0",
     "job refused 8",
     "job refused 9",
     "job refused 10",

@@ -8,10 +8,13 @@
 
 use reference::generate::{
     any_mask, any_turn, damaged_list, damaged_sheet, damaged_strip, job, outline, small_figures,
-    sound_list, sound_sheet, sound_strip, Damage, ListDamage, OutlineKind, Random, SheetDamage,
+    sound_list, sound_pieces, sound_sheet, sound_strip, Damage, Job, ListDamage, OutlineKind,
+    Random, SheetDamage,
 };
+use reference::sheet::list_words;
 use reference::{cover, lay, lay_text, open, place, read, strip_runs, well_formed, write};
 use reference::{Figures, Position, Refusal};
+use std::cmp::Ordering;
 
 const HEAD: &str = "\
 -- Rows made by the reference program: each holds by computation if the definitions agree with it.
@@ -124,15 +127,56 @@ fn cover_row(random: &mut Random, table: &mut Table) {
 }
 
 fn open_row(random: &mut Random, table: &mut Table) {
-    let w = random.pick(&[0u16, 1, 10, 16_000, 16_001, 65_535]);
-    let r = random.pick(&[0u16, 1, 400, 401]);
-    let n = random.pick(&[0u16, 1, 5, 4_096, 4_097]);
+    let w = random.pick(&[1u16, 10, 16_000, 16_001]);
+    let r = random.pick(&[1u16, 3, 400, 401]);
+    let n = random.pick(&[1u16, 5, 4_096, 4_097]);
     let length = 4 + usize::from(n) + random.pick(&[0, 3, 4, 5, 40, 64_000, 64_004]);
     let answer = match open(w, r, n, &mut vec![7u16; length]) {
         Ok(()) => String::from("Opened"),
         Err(refusal) => refused("NotOpened", refusal),
     };
     table.row(&format!("openAnswer {w} {r} {n} {length}"), &answer);
+}
+
+/// W, R and N in each call that asks about all three: the one at this place out of
+/// its limits, those before it in them, those after it anywhere.
+fn limits_row(random: &mut Random, table: &mut Table, wrong: usize) {
+    let mut figure = |place: usize, most: u16| match place.cmp(&wrong) {
+        Ordering::Less => random.word(1, most),
+        Ordering::Equal => random.pick(&[0, most + 1, 65_535]),
+        Ordering::Greater => random.pick(&[0, 1, most, most + 1]),
+    };
+    let (w, r, n) = (figure(0, 16_000), figure(1, 400), figure(2, 4_096));
+    let pieces = sound_pieces(random, 1, 4);
+    let words = list_words(&pieces);
+    let figures = Figures {
+        width: w,
+        resolution: r,
+        columns: n,
+    };
+    let sheet = Job { figures, pieces }.sheet();
+    let refusal = open(w, r, n, &mut []).expect_err("out of limits");
+    table.row(
+        &format!("openAnswer {w} {r} {n} 0"),
+        &refused("NotOpened", refusal),
+    );
+    let refusal = write(w, r, n, &words, &mut [9; 200]).expect_err("out of limits");
+    table.row(
+        &format!("writeAnswer {w} {r} {n} {} 200", numbers(&words)),
+        &refused("NotWritten", refusal),
+    );
+    let (refusal, bytes) = (read(&sheet, &mut [9; 40]), numbers(&sheet));
+    table.row(
+        &format!("readAnswer {bytes} 40"),
+        &refused("NotRead", refusal.expect_err("out of limits")),
+    );
+    let refusal = lay(&sheet, &mut [3; 30], &mut [9; 4], &mut [1; 40]);
+    table.row(
+        &format!("layAnswer {bytes} 30 4 40"),
+        &refused("NotLaid", refusal.expect_err("out of limits")),
+    );
+    let text = lay_text(&sheet);
+    table.row(&format!("layText {bytes}"), &format!("ascii {text:?}"));
 }
 
 /// A list of place calls from an opened strip.
@@ -306,9 +350,10 @@ fn main() {
     let mut random = Random::new(seed);
     let mut table = Table { rows: 0 };
     print!("{HEAD}");
-    for _ in 0..count {
+    for round in 0..count {
         cover_row(&mut random, &mut table);
         open_row(&mut random, &mut table);
+        limits_row(&mut random, &mut table, round as usize % 3);
         list_row(&mut random, &mut table);
         place_row(&mut random, &mut table);
         strip_row(&mut random, &mut table);

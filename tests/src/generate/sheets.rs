@@ -222,7 +222,7 @@ pub fn round_of_vertices(random: &mut Random, lead: usize, round: usize) -> Shee
     plan
 }
 
-/// A way in which a sheet fails one of the questions 1 to 3 and 6 to 11.
+/// A way in which a sheet fails one of the questions 1 to 3, 16, 17 and 6 to 11.
 #[derive(Clone, Copy, Debug, PartialEq, Eq)]
 pub enum SheetDamage {
     FirstByte,
@@ -341,7 +341,11 @@ pub fn damaged_sheet_at(
     let figures = small_figures(random);
     let plan = SheetPlan::shuffled(random, figures, &pieces, false);
     let (bytes, number) = damaged_bytes(random, plan, damage, place);
-    let ordinal = if number <= 6 { 0 } else { ordinal };
+    let ordinal = if (7..=11).contains(&number) {
+        ordinal
+    } else {
+        0
+    };
     DamagedSheet {
         bytes,
         refusal: no(number, ordinal),
@@ -388,10 +392,10 @@ fn damaged_bytes(
         }
         SheetDamage::WidthZero => (with_word(bytes, 4, 0), 3),
         SheetDamage::WidthOver => (with_word(bytes, 4, random.word(16_001, 65_535)), 3),
-        SheetDamage::ResolutionZero => (with_word(bytes, 6, 0), 3),
-        SheetDamage::ResolutionOver => (with_word(bytes, 6, random.word(401, 65_535)), 3),
-        SheetDamage::ColumnsZero => (with_word(bytes, 8, 0), 3),
-        SheetDamage::ColumnsOver => (with_word(bytes, 8, random.word(4_097, 65_535)), 3),
+        SheetDamage::ResolutionZero => (with_word(bytes, 6, 0), 16),
+        SheetDamage::ResolutionOver => (with_word(bytes, 6, random.word(401, 65_535)), 16),
+        SheetDamage::ColumnsZero => (with_word(bytes, 8, 0), 17),
+        SheetDamage::ColumnsOver => (with_word(bytes, 8, random.word(4_097, 65_535)), 17),
         _ => damaged_chains(random, plan, damage, place),
     }
 }

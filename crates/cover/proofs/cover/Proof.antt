@@ -1,9 +1,9 @@
--- The cover call: 3, then 7 to 10, then 11, 12 and the runs, in document 01's order. Assumes nothing.
+-- The cover call: 16, then 7 to 10, then 11, 12 and the runs, in document 01's order. Assumes nothing.
 use mathlib.Core.Path.{refl, sym, _∙_}
 use native.Mathlib.Omega.{arith}
 use borrow.Author.Needs.{needs}
 use borrow.Author.Tests.{not-true, not-false}
-use Rattle.cover.proofs.Answers.{cover-3, cover-no}
+use Rattle.cover.proofs.Answers.{cover-16, cover-no}
 use Rattle.cover.proofs.Steps.{refused-step}
 use Rattle.cover.proofs.cover.Statement.{statement}
 use Rattle.cover.proofs.cover.Tie as tie
@@ -17,7 +17,7 @@ refused-requires c κs = search needs
 returns : tie.Need-returns
 returns c =
     refused-step (c .refused .ensures)
-    (cover-3 _ _ _ _ (sym (c .before .before .resolution-fits .ensures) ∙ not-true _ (c .before .if1 .taken))) refl
+    (cover-16 _ _ _ _ (sym (c .before .before .resolution-fits .ensures) ∙ not-true _ (c .before .if1 .taken))) refl
 
 turn-no-requires : tie.Need-turn-no-requires
 turn-no-requires c κs = search needs

@@ -18,7 +18,7 @@ use Rattle.defs.specs.Meaning.Limits.{mostCoordinate, mostMask, mostTurn
 use Rattle.defs.specs.Meaning.Strip.{widthOf, resolutionOf, columnsOf}
 use Rattle.defs.specs.Computing.Test.{ask, all}
 use Rattle.defs.specs.Computing.Cells.{Rows, pieceRuns, countRuns, ordersb, mostRuns}
-use Rattle.defs.specs.Computing.Words.{limitsb, resolutionb, lengthb, wellFormedb, recordsOf, runsOf, columnsRuns, written}
+use Rattle.defs.specs.Computing.Words.{limitsNo, resolutionb, lengthb, wellFormedb, recordsOf, runsOf, columnsRuns, written}
 use Rattle.defs.specs.Computing.Search.{bestBelow, entered}
 
 abbrev pub refusal : ℕ → ℕ → Refusal
@@ -58,7 +58,8 @@ outlineNo o ninth mask R =
 
 unfoldable pub openAnswer : ℕ → ℕ → ℕ → ℕ → Opening
 openAnswer W R N words =
-    ask (limitsb W R N) (NotOpened (refusal 3 0)) λ _.
+    let no = limitsNo W R N in
+    ask (eqb no 0) (NotOpened (refusal no 0)) λ _.
     ask (lengthb N words) (NotOpened (refusal 4 0)) λ _.
     Opened
 
@@ -66,7 +67,7 @@ openAnswer W R N words =
 
 unfoldable pub coverAnswer : List ℕ → ℕ → ℕ → ℕ → Covering
 coverAnswer o t R words =
-    ask (resolutionb R) (NotCovered (refusal 3 0)) λ _.
+    ask (resolutionb R) (NotCovered (refusal 16 0)) λ _.
     let no = outlineNo o (leb t mostTurn) (2 ^ t) R in
     ask (eqb no 0) (NotCovered (refusal no 1)) λ _.
     ask (q12b o (2 ^ t) R words) (NotCovered (refusal 12 1)) λ _.

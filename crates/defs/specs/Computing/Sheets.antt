@@ -15,7 +15,7 @@ use Rattle.defs.specs.declared.Writing.the-variants.{Written, Refused as
 use Rattle.defs.specs.Meaning.Limits.{leastVertices, mostVertices, mostPieces, mostBytes}
 use Rattle.defs.specs.Meaning.Sheet.{Piece, mark, sheetW, sheetR, sheetN, sheetV, sheetP, firstPiece, vertexNumber, pieceNumber, vertexWords, listWords}
 use Rattle.defs.specs.Computing.Test.{ask, all, chainBy, endsBy}
-use Rattle.defs.specs.Computing.Words.{limitsb}
+use Rattle.defs.specs.Computing.Words.{limitsNo}
 use Rattle.defs.specs.Computing.Calls.{refusal, q9b, outlineNo}
 
 unfoldable pub q1b : List ℕ → Bool
@@ -56,12 +56,13 @@ firstNo f k (x ∷ xs) =
     let n = f x in
     cond (eqb n 0) r (some (refusal n k))
 
--- the first of 1 to 3, 6 to 11 that gets "no"; 4 stands between 3 and 6 where a strip is lent
+-- the first of 1 to 3, 16, 17, 6 to 11 that gets "no"; 4 stands before 6 where a strip is lent
 unfoldable pub sheetNo : List ℕ → Bool → Option Refusal
 sheetNo b fourth =
     ask (q1b b) (some (refusal 1 0)) λ _.
     ask (q2b b) (some (refusal 2 0)) λ _.
-    ask (limitsb (sheetW b) (sheetR b) (sheetN b)) (some (refusal 3 0)) λ _.
+    let no = limitsNo (sheetW b) (sheetR b) (sheetN b) in
+    ask (eqb no 0) (some (refusal no 0)) λ _.
     ask fourth (some (refusal 4 0)) λ _.
     ask (q6b b) (some (refusal 6 0)) λ _.
     firstNo (sheetPieceNo b) 1 (pieceRecords b)
@@ -157,7 +158,8 @@ q6Listb ws = leb 1 (length ws) && leb (getD ws 0 0) mostPieces
 
 unfoldable pub listNo : ℕ → ℕ → ℕ → List ℕ → Option Refusal
 listNo W R N ws =
-    ask (limitsb W R N) (some (refusal 3 0)) λ _.
+    let no = limitsNo W R N in
+    ask (eqb no 0) (some (refusal no 0)) λ _.
     ask (q6Listb ws) (some (refusal 6 0)) λ _.
     firstNo (listPieceNo R) 1 (listTails (getD ws 0 0) (drop 1 ws))
 

@@ -6,14 +6,28 @@ use lib.Dec.{ltb, leb, eqb}
 use lib.ListN.{length}
 use Rattle.defs.specs.Meaning.Limits.{mostWidth, mostResolution, mostColumns, mostRecords, leadingWords, recordWords}
 use Rattle.defs.specs.Meaning.Strip.{widthOf, resolutionOf, columnsOf, firstOf, columnOf, lowOf, highOf, nextOf}
-use Rattle.defs.specs.Computing.Test.{allTo, all, listFrom, chainBy, endsBy}
+use Rattle.defs.specs.Computing.Test.{ask, allTo, all, listFrom, chainBy, endsBy}
 use Rattle.defs.specs.Computing.Cells.{Rows, countRuns}
+
+unfoldable pub widthb : ℕ → Bool
+widthb W = leb 1 W && leb W mostWidth
 
 unfoldable pub resolutionb : ℕ → Bool
 resolutionb R = leb 1 R && leb R mostResolution
 
+unfoldable pub columnsb : ℕ → Bool
+columnsb N = leb 1 N && leb N mostColumns
+
 unfoldable pub limitsb : ℕ → ℕ → ℕ → Bool
-limitsb W R N = (leb 1 W && leb W mostWidth) && (resolutionb R && (leb 1 N && leb N mostColumns))
+limitsb W R N = widthb W && (resolutionb R && columnsb N)
+
+-- the first of 3, 16 and 17 that gets "no", else 0
+unfoldable pub limitsNo : ℕ → ℕ → ℕ → ℕ
+limitsNo W R N =
+    ask (widthb W) 3 λ _.
+    ask (resolutionb R) 16 λ _.
+    ask (columnsb N) 17 λ _.
+    0
 
 -- Q of a strip of so many words
 unfoldable pub recordsOf : ℕ → ℕ → ℕ

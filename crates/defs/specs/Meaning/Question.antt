@@ -5,11 +5,11 @@ use mathlib.Core.List.{List}
 use Prim.Native.Nat.{ℕ, _+_, _*_, _/_, _%_, _≤_, _<_}
 use lib.ListN.{length, getD}
 use Rattle.defs.specs.declared.Position.{Position}
-use Rattle.defs.specs.Meaning.Limits.{Between, leastVertices, mostVertices, mostCoordinate, mostTurn, mostMask, mostResolution, mostPieces, mostBytes}
+use Rattle.defs.specs.Meaning.Limits.{Between, leastVertices, mostVertices, mostCoordinate, mostTurn, mostMask, mostWidth, mostResolution, mostColumns, mostPieces, mostBytes}
 use Rattle.defs.specs.Meaning.Outline.{KeepsOrder}
 use Rattle.defs.specs.Meaning.Turn.{turned, Allows}
 use Rattle.defs.specs.Meaning.Cell.{Cells, AtMostRuns}
-use Rattle.defs.specs.Meaning.Strip.{Limits, Length, WellFormed}
+use Rattle.defs.specs.Meaning.Strip.{Length, WellFormed}
 use Rattle.defs.specs.Meaning.Placing.{Fits, cellsIn, cellsAt}
 use Rattle.defs.specs.Meaning.Sheet.{PieceChain, VertexChain}
 
@@ -17,12 +17,17 @@ use Rattle.defs.specs.Meaning.Sheet.{PieceChain, VertexChain}
 abbrev pub Question2Size : ℕ → Type 0
 Question2Size size = size ≤ mostBytes
 
--- "3. Are W, R, N (those given) in their limits?" Cover is given R alone.
-abbrev pub Question3 : ℕ → ℕ → ℕ → Type 0
-Question3 W R N = Limits W R N
+-- "3. Are W, R, N (those given) in their limits?" Changed by S-1: "Number 3 now means the width only. Cover asks only about the
+-- resolution. New numbers: 16 when the resolution is outside its limits, then 17 when the column count is, both directly after 3
+-- wherever 3 is asked."
+abbrev pub Question3 : ℕ → Type 0
+Question3 W = Between 1 W mostWidth
 
-abbrev pub Question3R : ℕ → Type 0
-Question3R R = Between 1 R mostResolution
+abbrev pub Question16 : ℕ → Type 0
+Question16 R = Between 1 R mostResolution
+
+abbrev pub Question17 : ℕ → Type 0
+Question17 N = Between 1 N mostColumns
 
 -- "4. At opening: is the strip's length right for N and some Q?"
 unfoldable pub Question4 : ℕ → ℕ → Type 0
@@ -93,7 +98,8 @@ Question14 R Q Occupied o p = AtMostRuns (λ i j. Occupied i j ⊎ cellsAt R o p
 abbrev pub Question15 : ℕ → ℕ → Type 0
 Question15 output room = output ≤ room
 
--- "cover 3, 7 to 12; place 5, 7 to 14": 7 to 12 of one lent outline; where a turn is given, its mask is 2 ^ t.
+-- "cover 3, 7 to 12; place 5, 7 to 14", cover's 3 being 16 by S-1: 7 to 12 of one lent outline; where a turn is given, its mask is
+-- 2 ^ t.
 pub record Asked7to12 (o : List ℕ) (mask R words : ℕ) : Type 0 where
   pub q7 : Question7 o
   pub q8 : Question8 o

@@ -84,11 +84,12 @@ pub data Pieces (b : List ℕ) : List ℕ → List Piece → Type 0 where
       {r : ℕ} {rs vs : List ℕ} {ps : List Piece} → VertexChain b r vs → Pieces b rs ps →
       Pieces b (r ∷ rs) (record { mask = pieceNumber b r 1; outline = vertexWords b vs } ∷ ps)
 
--- "Reading walks each chain … and gives W, R, N and the cut list": a sheet that passes 1, 2, 3, 6 and 7 holds these pieces.
+-- "Reading walks each chain … and gives W, R, N and the cut list": a sheet that passes 1, 2, 3, 16, 17, 6
+-- and 7 holds these pieces.
 pub record SheetHolds (b : List ℕ) (ps : List Piece) : Type 0 where
   pub q1 : Question1 b
   pub q2 : Question2 b
-  pub q3 : Limits (sheetW b) (sheetR b) (sheetN b)
+  pub limits : Limits (sheetW b) (sheetR b) (sheetN b)
   pub records : List ℕ
   pub q6 : PieceChain b records
   pub pieces : Pieces b records ps

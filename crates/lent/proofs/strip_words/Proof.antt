@@ -1,7 +1,7 @@
--- Where 1 or 3 refuses, the number of words is of no matter. Assumes nothing.
+-- Where 1, or a question of the limits, refuses, the number of words is of no matter. Assumes nothing.
 use native.Mathlib.Omega.{arith}
 use borrow.Author.Needs.{needs}
-use Rattle.lent.proofs.Strips.{strip-early-1, strip-early-3, strip-exact}
+use Rattle.lent.proofs.Strips.{strip-early-1, strip-early-limits, strip-exact}
 use Rattle.lent.proofs.strip_words.Statement.{statement}
 use Rattle.lent.proofs.strip_words.Tie as tie
 
@@ -12,7 +12,7 @@ number-requires : tie.Need-number-requires
 number-requires c κs = search needs
 
 returns-2 : tie.Need-returns-2
-returns-2 c = strip-early-3 _ (omega (arith, c .before .number .ensures))
+returns-2 c = strip-early-limits _ (omega (arith, c .before .number .ensures))
 
 cast-result : tie.Need-cast-result
 cast-result c = search needs

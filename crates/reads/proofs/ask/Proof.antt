@@ -1,7 +1,8 @@
--- 1 to 4 and then the chain, in document 01's order. Assumes nothing.
+-- 1 to 3, 16, 17, 4 and then the chain, in document 01's order. Assumes nothing.
 use mathlib.Core.Path.{sym, _∙_}
+use native.Mathlib.Omega.{arith}
 use borrow.Author.Tests.{not-true, not-false}
-use Rattle.reads.proofs.Outputs.{long, limits-are, begun-by, no-1, no-2, no-3, no-4, four-is}
+use Rattle.reads.proofs.Outputs.{long, limits-are, begun-by, no-1, no-2, no-limits, no-4, four-is}
 use borrow.Author.Needs.{needs}
 use Rattle.reads.proofs.ask.Statement.{statement}
 use Rattle.reads.proofs.ask.Tie as tie
@@ -21,20 +22,20 @@ returns-2 c = no-2 _ (sym (c .before .before .before .begins .ensures) ∙ not-f
 figures-of-requires : tie.Need-figures-of-requires
 figures-of-requires c κs = long _ (sym (c .before .before .before .begins .ensures) ∙ not-false _ (c .before .before .if1 .left))
 
-limits-fit-requires : tie.Need-limits-fit-requires
-limits-fit-requires c κs = search needs
+limits-no-requires : tie.Need-limits-no-requires
+limits-no-requires c κs = search needs
 
 returns-3 : tie.Need-returns-3
-returns-3 c = no-3 _ (sym (c .before .before .before .before .before .before .begins .ensures) ∙ not-false _ (c .before .before .before .before .before .if1 .left)) (sym (c .before .before .before .before .fits2 .ensures) ∙ not-false _ (c .before .before .before .if2 .left)) (limits-are (c .before .before .before .before .before .before .before .before .args .sheet .now) _ (c .before .before .figures-of .ensures) (c .before .limits-fit .ensures) ∙ not-true _ (c .if3 .taken))
+returns-3 c = no-limits _ (sym (c .before .before .before .before .before .before .begins .ensures) ∙ not-false _ (c .before .before .before .before .before .if1 .left)) (sym (c .before .before .before .before .fits2 .ensures) ∙ not-false _ (c .before .before .before .if2 .left)) (limits-are (c .before .before .before .before .before .before .before .before .args .sheet .now) _ (c .before .before .figures-of .ensures) (c .before .limits-no .ensures)) (omega (arith, c .if3 .taken))
 
 fourth-requires : tie.Need-fourth-requires
 fourth-requires c κs = search needs
 
 returns-4 : tie.Need-returns-4
-returns-4 c = no-4 (begun-by (c .before .before .before .before .before .before .before .before .before .before .args .sheet .now) (sym (c .before .before .before .before .before .before .before .before .begins .ensures) ∙ not-false _ (c .before .before .before .before .before .before .before .if1 .left)) (sym (c .before .before .before .before .before .before .fits2 .ensures) ∙ not-false _ (c .before .before .before .before .before .if2 .left)) (c .before .before .before .before .figures-of .ensures) (sym (not-false _ (c .before .before .if3 .left)) ∙ c .before .before .before .limits-fit .ensures)) (four-is (c .before .before .before .before .before .before .before .before .before .before .args .sheet .now) (c .before .before .before .before .before .before .before .before .before .before .args .strip) (c .before .before .before .before .figures-of .ensures) (c .before .fourth .ensures) (not-true _ (c .if4 .taken)))
+returns-4 c = no-4 (begun-by (c .before .before .before .before .before .before .before .before .before .before .args .sheet .now) (sym (c .before .before .before .before .before .before .before .before .begins .ensures) ∙ not-false _ (c .before .before .before .before .before .before .before .if1 .left)) (sym (c .before .before .before .before .before .before .fits2 .ensures) ∙ not-false _ (c .before .before .before .before .before .if2 .left)) (c .before .before .before .before .figures-of .ensures) (sym (c .before .before .if3 .left) ∙ c .before .before .before .limits-no .ensures)) (four-is (c .before .before .before .before .before .before .before .before .before .before .args .sheet .now) (c .before .before .before .before .before .before .before .before .before .before .args .strip) (c .before .before .before .before .figures-of .ensures) (c .before .fourth .ensures) (not-true _ (c .if4 .taken)))
 
 ask-chain-requires : tie.Need-ask-chain-requires
-ask-chain-requires c κs = begun-by (c .before .before .before .before .before .before .before .before .before .before .args .sheet .now) (sym (c .before .before .before .before .before .before .before .before .begins .ensures) ∙ not-false _ (c .before .before .before .before .before .before .before .if1 .left)) (sym (c .before .before .before .before .before .before .fits2 .ensures) ∙ not-false _ (c .before .before .before .before .before .if2 .left)) (c .before .before .before .before .figures-of .ensures) (sym (not-false _ (c .before .before .if3 .left)) ∙ c .before .before .before .limits-fit .ensures)
+ask-chain-requires c κs = begun-by (c .before .before .before .before .before .before .before .before .before .before .args .sheet .now) (sym (c .before .before .before .before .before .before .before .before .begins .ensures) ∙ not-false _ (c .before .before .before .before .before .before .before .if1 .left)) (sym (c .before .before .before .before .before .before .fits2 .ensures) ∙ not-false _ (c .before .before .before .before .before .if2 .left)) (c .before .before .before .before .figures-of .ensures) (sym (c .before .before .if3 .left) ∙ c .before .before .before .limits-no .ensures)
 
 returns-5 : tie.Need-returns-5
 returns-5 c = rw (four-is (c .before .before .before .before .before .before .before .before .before .before .before .args .sheet .now) (c .before .before .before .before .before .before .before .before .before .before .before .args .strip) (c .before .before .before .before .before .figures-of .ensures) (c .before .before .fourth .ensures) (not-false _ (c .before .if4 .left))) (c .ask-chain .ensures)
@@ -48,7 +49,7 @@ ask-spec =
     fits-requires
     returns-2
     figures-of-requires
-    limits-fit-requires
+    limits-no-requires
     returns-3
     fourth-requires
     returns-4

@@ -16,7 +16,7 @@ struct Kind {
     name: &'static str,
     calls: u64,
     /// How often each number came; 0 is granted.
-    numbers: [u64; 16],
+    numbers: [u64; 18],
 }
 
 impl Kind {
@@ -24,7 +24,7 @@ impl Kind {
         Kind {
             name,
             calls: 0,
-            numbers: [0; 16],
+            numbers: [0; 18],
         }
     }
 
@@ -205,7 +205,11 @@ impl Soak {
         let output = 4 * pieces_of(&sheet);
         let other = self.random.index(output + 1);
         let output = self.random.pick(&[output, output, output + 3, other]);
-        let strip = if self.random.once_in(16) { strip - 1 } else { strip };
+        let strip = if self.random.once_in(16) {
+            strip - 1
+        } else {
+            strip
+        };
         self.lay(&sheet, strip, output);
     }
 
@@ -216,7 +220,11 @@ impl Soak {
 
 fn main() {
     let mut numbers = std::env::args().skip(1).map(|word| word.parse::<u64>());
-    let mut next = |or: u64| numbers.next().map_or(or, |number| number.expect("a number"));
+    let mut next = |or: u64| {
+        numbers
+            .next()
+            .map_or(or, |number| number.expect("a number"))
+    };
     let (calls, seed) = (next(1_000_000), next(1));
     let mut soak = Soak::new(seed);
     while soak.calls() < calls {
@@ -229,7 +237,7 @@ fn main() {
     }
     println!("{} calls, seed {seed}, no difference", soak.calls());
     for kind in [&soak.open, &soak.place, &soak.lay] {
-        let came: Vec<String> = (0..16)
+        let came: Vec<String> = (0..18)
             .filter(|&number| kind.numbers[number] > 0)
             .map(|number| format!("{number}: {}", kind.numbers[number]))
             .collect();
@@ -249,4 +257,12 @@ fn main() {
         soak.lay.calls - soak.lay.numbers[0],
     ];
     assert!(all.iter().all(|&times| times > least), "too few of a kind");
+    // Nor one that never meets W, R or N out of limits.
+    let rarest = calls / 1_000;
+    for kind in [&soak.open, &soak.lay] {
+        for number in [3, 16, 17] {
+            let times = kind.numbers[number];
+            assert!(times >= rarest, "{} has {number} {times} times", kind.name);
+        }
+    }
 }
