@@ -14,11 +14,12 @@
  *   between calls, so calls on different buffers may run at the same time.
  * - A pointer to words is aligned to 2 bytes. No pointer is NULL, also where the buffer has no words or bytes.
  * - The buffers of one call must not overlap; nothing checks that.
- * - A call keeps its tables on the stack: some 250 KB in vikelodu_lay, 220 KB in vikelodu_place, 40 KB in vikelodu_cover,
- *   vikelodu_read and vikelodu_write, 10 KB in vikelodu_open.
- * - As bytes, a buffer of words has two to a word, low byte first, and an odd last byte is no part of it and stays. A machine
- *   that stores numbers low byte first can so lend a byte buffer as it is, if it is aligned to 2 bytes: the words are its bytes
- *   divided by 2.
+ * - A call keeps its tables on the stack, and nothing checks that there is room: 250 KB in vikelodu_lay, 220 KB in vikelodu_place,
+ *   40 KB in vikelodu_cover, vikelodu_read and vikelodu_write, 10 KB in vikelodu_open, 1 KB in vikelodu_retrace. The calls on bytes
+ *   say their own.
+ * - vikelodu_open_bytes, vikelodu_place_bytes and vikelodu_lay_bytes take every buffer as bytes, two to a word, low byte first: a
+ *   pointer to its first byte, which needs no alignment, and its number of bytes. An odd last byte is no part of the buffer and
+ *   stays.
  *
  * Lengths
  *
@@ -224,6 +225,41 @@ uint64_t vikelodu_write(uint16_t width, uint16_t resolution, uint16_t columns, c
 uint64_t vikelodu_lay(const uint8_t *sheet, size_t sheet_bytes, uint16_t *strip, size_t strip_words, uint16_t *output,
                       size_t output_words, uint16_t *work, size_t work_words);
 
+/*
+ * Tells whether an outline goes twice along a stretch, as to the tip of a spur and back, or over a bridge.
+ *
+ *   outline   as in vikelodu_place
+ *
+ * What is promised of placed pieces is about their insides, and a stretch that is drawn twice need not bound one: it may lie over
+ * another piece, and a knife that follows it cuts into that piece. Where an outline draws nothing twice, no point of it, in any
+ * turn and wherever it is placed, lies in the interior of another placed piece.
+ *
+ * Refused with 7 or 8, ordinal 1. Granted, the answer has the numbers of the first two edges that share a stretch, or 0 and 0
+ * where nothing is drawn twice. Edge 1 goes from the first vertex to the second, and the last edge back to the first vertex.
+ *
+ *   uint64_t answer = vikelodu_retrace(outline, words);
+ *   if (vikelodu_number(answer) == VIKELODU_GRANTED && vikelodu_first_edge(answer) != 0)
+ *       printf("edges %d and %d share a stretch\n", vikelodu_first_edge(answer), vikelodu_second_edge(answer));
+ */
+uint64_t vikelodu_retrace(const uint16_t *outline, size_t outline_words);
+
+/*
+ * vikelodu_open, vikelodu_place and vikelodu_lay on buffers of bytes: the same answers, and the same words left in each buffer, as
+ * of the calls on words that have the buffers' words. A buffer may stand at any address, an odd one too.
+ *
+ *   uint8_t strip[2 * VIKELODU_STRIP_WORDS(10, 6)];
+ *   uint64_t answer = vikelodu_open_bytes(10, 2, 10, strip, sizeof strip);
+ *
+ * Buffers are copied to the stack and back, but for the work buffer, which is cleared and otherwise not touched. The stack needed is
+ * 160 KB in vikelodu_open_bytes; 400 KB in vikelodu_place_bytes and 430 KB in vikelodu_lay_bytes where the work buffer has at most
+ * 9,000 words, and 3.5 MB where it has more.
+ */
+uint64_t vikelodu_open_bytes(uint16_t width, uint16_t resolution, uint16_t columns, uint8_t *strip, size_t strip_bytes);
+uint64_t vikelodu_place_bytes(uint8_t *strip, size_t strip_bytes, const uint8_t *outline, size_t outline_bytes, uint16_t mask,
+                              uint8_t *work, size_t work_bytes);
+uint64_t vikelodu_lay_bytes(const uint8_t *sheet, size_t sheet_bytes, uint8_t *strip, size_t strip_bytes, uint8_t *output,
+                            size_t output_bytes, uint8_t *work, size_t work_bytes);
+
 /* What an answer says. The number is 0 where the call is granted. */
 static inline uint16_t vikelodu_number(uint64_t answer) { return (uint16_t)answer; }
 
@@ -250,6 +286,10 @@ static inline uint32_t vikelodu_size(uint64_t answer) { return (uint32_t)(answer
 /* Of a granted vikelodu_lay: the pieces placed, and the used columns. */
 static inline uint16_t vikelodu_placed(uint64_t answer) { return (uint16_t)(answer >> 16); }
 static inline uint16_t vikelodu_used(uint64_t answer) { return (uint16_t)(answer >> 32); }
+
+/* Of a granted vikelodu_retrace: the first two edges that share a stretch, 0 and 0 where there are none. */
+static inline uint16_t vikelodu_first_edge(uint64_t answer) { return (uint16_t)(answer >> 16); }
+static inline uint16_t vikelodu_second_edge(uint64_t answer) { return (uint16_t)(answer >> 32); }
 
 #ifdef __cplusplus
 }

@@ -284,6 +284,44 @@ static void test_cover(void) {
     cover("an output short by one", square, WORDS(square), 0, 2, 5, VIKELODU_BUFFER, 1);
 }
 
+/* ------------------------------------------------------------------ retrace */
+
+static uint64_t edges(uint64_t first, uint64_t second) { return first << 16 | second << 32; }
+
+static void retrace(const char *what, const uint16_t *outline, size_t outline_words, uint64_t wanted) {
+    struct buffer lent = make(outline_words);
+    memcpy(lent.words, outline, 2 * outline_words);
+    expect(what, vikelodu_retrace(lent.words, lent.count), wanted);
+    expect("outline", memcmp(lent.words, outline, 2 * outline_words) == 0, 1);
+    expect_fences("around the outline", lent);
+    drop(lent);
+}
+
+static void test_retrace(void) {
+    static const uint16_t spur[] = {0, 0, 4, 0, 4, 4, 8, 4, 4, 4, 0, 4};
+    static const uint16_t upright_spur[] = {0, 0, 4, 0, 4, 4, 4, 8, 4, 4, 0, 4};
+    static const uint16_t part[] = {0, 0, 6, 0, 2, 0, 2, 4};
+    static const uint16_t bridge[] = {0, 0, 2, 0, 4, 0, 6, 0, 6, 2, 4, 2, 4, 0, 2, 0, 2, 2, 0, 2};
+    static const uint16_t last_edge[] = {4, 6, 1, 0, 9, 0, 9, 9, 1, 0};
+    static const uint16_t far[] = {0, 0, 16001, 0, 0, 4};
+    static const uint16_t limit[] = {0, 0, 16000, 0, 0, 16000};
+    uint16_t vertices_65[130] = {0};
+    retrace("a square", square, WORDS(square), 0);
+    retrace("a triangle at the limit", limit, WORDS(limit), 0);
+    retrace("a point of 64 vertices", vertices_65, 128, 0);
+    retrace("a spur", spur, WORDS(spur), edges(3, 4));
+    retrace("a spur upright", upright_spur, WORDS(upright_spur), edges(3, 4));
+    retrace("a part of an edge", part, WORDS(part), edges(1, 2));
+    retrace("a bridge", bridge, WORDS(bridge), edges(2, 7));
+    retrace("the last edge", last_edge, WORDS(last_edge), edges(1, 5));
+    retrace("no outline", square, 0, refused(VIKELODU_VERTICES, 1));
+    retrace("two vertices", square, 4, refused(VIKELODU_VERTICES, 1));
+    retrace("half a vertex", square, 7, refused(VIKELODU_VERTICES, 1));
+    retrace("65 vertices", vertices_65, 130, refused(VIKELODU_VERTICES, 1));
+    retrace("16,001", far, WORDS(far), refused(VIKELODU_COORDINATE, 1));
+    retrace("16,001 and half a vertex", far, 5, refused(VIKELODU_VERTICES, 1));
+}
+
 /* -------------------------------------------------------------------- bytes */
 
 /* Buffers of bytes with an odd last byte, which is no part of them and stays. */
@@ -650,6 +688,116 @@ static void test_lay_on_bytes(void) {
     }
 }
 
+/* ----------------------------------------------------------- calls on bytes */
+
+/* The bytes of some words, low byte first, and an odd last one. They stand at an odd address: memory from malloc begins at an
+   even one, and the fence is its first byte. */
+static struct bytes bytes_of(const uint16_t *words, size_t count) {
+    struct bytes made = make_bytes(2 * count + 1);
+    expect("an odd address", (uintptr_t)made.at % 2, 1);
+    for (size_t i = 0; i < count; i++) {
+        made.at[2 * i] = (uint8_t)words[i];
+        made.at[2 * i + 1] = (uint8_t)(words[i] >> 8);
+    }
+    return made;
+}
+
+/* They hold these words now; the odd byte and the fences stayed. */
+static void expect_words(const char *what, struct bytes got, struct buffer wanted) {
+    struct bytes now = bytes_of(wanted.words, wanted.count);
+    expect(what, got.count, now.count);
+    expect_bytes(what, got, now.at);
+    expect_fences_of_bytes(what, got);
+    drop_bytes(now);
+}
+
+static void expect_cleared(const char *what, struct bytes of) {
+    for (size_t i = 0; i < of.count - 1; i++) {
+        expect(what, of.at[i], 0);
+    }
+    expect(what, of.at[of.count - 1], 0xA7);
+    expect_fences_of_bytes(what, of);
+}
+
+/* Place on words and on bytes of the same strip: the same answer, and the same words after it. */
+static void place_both(const char *what, struct buffer strip, struct bytes as_bytes, const uint16_t *outline,
+                       size_t outline_words, uint16_t mask, size_t work_words, uint64_t wanted) {
+    struct bytes lent = bytes_of(outline, outline_words), before = bytes_of(outline, outline_words);
+    struct bytes work = make_bytes(2 * work_words + 1);
+    place(what, strip, outline, outline_words, mask, work_words, wanted);
+    expect(what, vikelodu_place_bytes(as_bytes.at, as_bytes.count, lent.at, lent.count, mask, work.at, work.count), wanted);
+    expect_words(what, as_bytes, strip);
+    expect_bytes(what, lent, before.at);
+    expect_fences_of_bytes("around the outline", lent);
+    expect_cleared("work bytes", work);
+    drop_bytes(lent);
+    drop_bytes(before);
+    drop_bytes(work);
+}
+
+static void test_open_and_place_on_bytes(void) {
+    static const uint16_t far[] = {0, 0, 16001, 0, 0, 4};
+    struct buffer words = opened(10, 2, 10, 4), other = make(words.count);
+    struct bytes strip = bytes_of(other.words, other.count);
+    expect("open on bytes, columns 0", vikelodu_open_bytes(10, 2, 0, strip.at, strip.count), refused(VIKELODU_COLUMNS, 0));
+    expect("open on bytes, a word less", vikelodu_open_bytes(10, 2, 10, strip.at, strip.count - 2),
+           refused(VIKELODU_STRIP_LENGTH, 0));
+    expect_words("strip of a refused open on bytes", strip, other);
+    expect("open on bytes", vikelodu_open_bytes(10, 2, 10, strip.at, strip.count), 0);
+    expect_words("an opened strip", strip, words);
+    place_both("first square", words, strip, square, WORDS(square), 1, 6, placed(0, 0, 0));
+    place_both("second square", words, strip, square, WORDS(square), 1, 6, placed(0, 0, 4));
+    place_both("two vertices", words, strip, square, 4, 1, 6, refused(VIKELODU_VERTICES, 1));
+    place_both("16,001", words, strip, far, WORDS(far), 1, 6, refused(VIKELODU_COORDINATE, 1));
+    place_both("mask 16", words, strip, square, WORDS(square), 16, 6, refused(VIKELODU_TURN, 1));
+    place_both("a work buffer short by a word", words, strip, square, WORDS(square), 1, 5, refused(VIKELODU_BUFFER, 1));
+    place_both("third square", words, strip, square, WORDS(square), 1, 6, placed(0, 2, 0));
+    struct bytes never_opened = bytes_of(other.words, other.count);
+    place_both("a strip never opened", other, never_opened, square, WORDS(square), 1, 6, refused(VIKELODU_ILL_FORMED, 0));
+    drop(words);
+    drop(other);
+    drop_bytes(strip);
+    drop_bytes(never_opened);
+}
+
+/* Lay on words and on bytes: the same answer and the same words, of a refused job too. */
+static void lay_both(const char *what, const uint8_t *sheet, size_t sheet_bytes, size_t strip_words, size_t output_words,
+                     size_t work_words, uint64_t wanted) {
+    struct buffer strip = make(strip_words), output = make(output_words), work = make(work_words);
+    struct bytes lent = copy_bytes(sheet, sheet_bytes);
+    struct bytes strip_bytes = bytes_of(strip.words, strip.count), output_bytes = bytes_of(output.words, output.count);
+    struct bytes work_bytes = bytes_of(work.words, work.count);
+    expect(what, vikelodu_lay(sheet, sheet_bytes, strip.words, strip.count, output.words, output.count, work.words, work.count),
+           wanted);
+    expect(what,
+           vikelodu_lay_bytes(lent.at, lent.count, strip_bytes.at, strip_bytes.count, output_bytes.at, output_bytes.count,
+                              work_bytes.at, work_bytes.count),
+           wanted);
+    expect_bytes(what, lent, sheet);
+    expect_fences_of_bytes("around the sheet", lent);
+    expect_words("strip", strip_bytes, strip);
+    expect_words("output", output_bytes, output);
+    expect_cleared("work bytes", work_bytes);
+    drop(strip);
+    drop(output);
+    drop(work);
+    drop_bytes(lent);
+    drop_bytes(strip_bytes);
+    drop_bytes(output_bytes);
+    drop_bytes(work_bytes);
+}
+
+static void test_lay_as_bytes(void) {
+    size_t size = sizeof three_squares, words = VIKELODU_STRIP_WORDS(10, 4);
+    lay_both("three squares", three_squares, size, words, 12, 6, laid(3, 4));
+    lay_both("the longest output and more", three_squares, size, words, VIKELODU_MOST_LAY_WORDS + 9, 6, laid(3, 4));
+    lay_both("a record too few", three_squares, size, VIKELODU_STRIP_WORDS(10, 3), 12, 6, laid(2, 2));
+    lay_both("no work buffer", three_squares, size, words, 12, 0, laid(0, 0));
+    lay_both("cut off", three_squares, size - 1, words, 12, 6, refused(VIKELODU_SHEET_LENGTH, 0));
+    lay_both("a strip short by one", three_squares, size, words - 1, 12, 6, refused(VIKELODU_STRIP_LENGTH, 0));
+    lay_both("an output short by one", three_squares, size, words, 11, 6, refused(VIKELODU_OUTPUT, 0));
+}
+
 /* The sheet of three squares with one byte changed. */
 static void lay_changed(const char *what, size_t place, uint8_t byte, uint64_t number, uint64_t ordinal) {
     uint8_t sheet[sizeof three_squares];
@@ -734,6 +882,8 @@ static void test_accessors(void) {
     expect("size", vikelodu_size(written(65536)), 65536);
     expect("placed", vikelodu_placed(laid(200, 4096)), 200);
     expect("used", vikelodu_used(laid(200, 4096)), 4096);
+    expect("first edge", vikelodu_first_edge(edges(63, 64)), 63);
+    expect("second edge", vikelodu_second_edge(edges(63, 64)), 64);
 }
 
 int main(void) {
@@ -745,6 +895,7 @@ int main(void) {
     test_refused_outlines();
     test_no_room();
     test_cover();
+    test_retrace();
     test_bytes();
     test_read();
     test_refused_sheets();
@@ -753,6 +904,8 @@ int main(void) {
     test_round_trip();
     test_lay();
     test_lay_on_bytes();
+    test_open_and_place_on_bytes();
+    test_lay_as_bytes();
     test_refused_jobs();
     test_limits();
     if (different) {

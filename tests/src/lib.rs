@@ -8,8 +8,8 @@
 //! outline covers ([`cells`]) and the search for a position ([`placing`]); the
 //! tests compare the two forms.
 //!
-//! Modules [`text`] and [`picture`] are not of the papers: they say what programs
-//! `sheet`, `show` and `draw` print.
+//! Modules [`text`], [`picture`] and [`retrace`] are not of the papers: they say
+//! what programs `sheet`, `show` and `draw` print, and what an outline draws twice.
 //!
 //! Module [`generate`] makes inputs of every kind, good and bad, from a seed.
 
@@ -22,6 +22,7 @@ pub mod outline;
 pub mod picture;
 pub mod placing;
 pub mod questions;
+pub mod retrace;
 pub mod sheet;
 pub mod strip;
 pub mod text;
@@ -30,5 +31,6 @@ pub use cells::{cover, runs};
 pub use figures::{Figures, Piece, Position, Refusal, Totals};
 pub use laying::{lay, lay_text};
 pub use placing::place;
+pub use retrace::retrace;
 pub use sheet::{read, write};
 pub use strip::{open, same_strip, strip_runs, well_formed};

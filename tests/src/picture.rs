@@ -8,6 +8,7 @@ use crate::cells::{runs_of, Run};
 use crate::figures::*;
 use crate::laying::{laid_job, LaidJob};
 use crate::outline::{extent, turned, vertices, Vertex};
+use crate::retrace::drawn_twice;
 use std::collections::BTreeSet;
 use std::ops::Range;
 
@@ -81,8 +82,10 @@ impl Picture<'_> {
             self.head(),
             self.columns(),
             self.pieces(),
+            self.twice(),
             self.lengths(),
             self.caption(),
+            self.dashed(),
             self.refusals(),
             "</svg>\n".to_string(),
         ]
@@ -166,6 +169,7 @@ impl Picture<'_> {
 .end{{stroke:#b3261e;stroke-width:.14em}}
 .more{{stroke:#fff;stroke-width:.2em;stroke-dasharray:.5em}}
 .piece{{fill:#cfe2f3;fill-rule:evenodd;stroke:#1b3a57;stroke-linejoin:round;stroke-width:{line}}}
+.twice{{stroke:#b3261e;stroke-width:{line};stroke-dasharray:.3em}}
 .middle{{text-anchor:middle}}
 .mark{{text-anchor:middle;font-size:.8em;fill:#555}}
 </style>
@@ -231,6 +235,15 @@ impl Picture<'_> {
         )
     }
 
+    /// What dashes mean, if a placed piece has some.
+    fn dashed(&self) -> String {
+        if self.twice().is_empty() {
+            String::new()
+        } else {
+            "<text x='12em' y='6.2em'>dashed: drawn twice</text>\n".to_string()
+        }
+    }
+
     fn refusals(&self) -> String {
         let mut lines = String::new();
         let mut place = 0;
@@ -252,6 +265,34 @@ impl Picture<'_> {
                 Err(_) => String::new(),
             })
             .collect()
+    }
+
+    /// What the placed pieces draw twice, over all of them: such a stretch may lie
+    /// over another piece.
+    fn twice(&self) -> String {
+        let pieces = self.job.pieces.iter().zip(&self.job.fates);
+        pieces
+            .filter_map(|(piece, fate)| Some((piece, fate.as_ref().ok()?)))
+            .map(|(piece, position)| self.dashes(piece, position))
+            .collect()
+    }
+
+    fn dashes(&self, piece: &Piece, position: &Position) -> String {
+        let outline = turned(&vertices(&piece.outline), position.turn);
+        let place = |vertex: Vertex| {
+            let x = self.units(u64::from(position.column)) + vertex.0 as u64;
+            let y = u64::from(position.height) + vertex.1 as u64;
+            format!("{} -{}", self.length(100 * x), self.length(100 * y))
+        };
+        let stretches: String = drawn_twice(&outline)
+            .into_iter()
+            .map(|(from, to)| format!("M{}L{}", place(from), place(to)))
+            .collect();
+        if stretches.is_empty() {
+            String::new()
+        } else {
+            format!("<path class='twice' d='{stretches}'/>\n")
+        }
     }
 
     /// A placed piece, with its ordinal in it.

@@ -6,6 +6,8 @@
 //! are millimetres, before it units of 1/8 mm.
 
 use crate::figures::*;
+use crate::outline::Vertex;
+use crate::retrace::{retrace, shared_by};
 use crate::sheet::{ask_head, list_words, pieces_of_sheet, write};
 
 const MOST_BYTES: usize = 262_144;
@@ -44,6 +46,31 @@ pub fn sheet_of_text(text: &[u8]) -> Result<Vec<u8>, String> {
             None => refusal.to_string(),
         }),
     }
+}
+
+/// What program `sheet` prints to standard error beside a sheet: a line for each
+/// piece that draws a stretch twice, in millimetres.
+pub fn notes_on_text(text: &[u8]) -> String {
+    let Ok(job) = TextJob::read(text) else {
+        return String::new();
+    };
+    let mut notes = String::new();
+    for (line, piece) in job.piece_lines.iter().zip(&job.pieces) {
+        if let Ok(Some(pair)) = retrace(&piece.outline) {
+            let (from, to) = shared_by(&piece.outline, pair).expect("they share it");
+            notes += &format!(
+                "line {line}: drawn twice from {} to {} mm, where a knife may cut into another piece\n",
+                in_millimetres(from),
+                in_millimetres(to)
+            );
+        }
+    }
+    notes
+}
+
+/// A vertex in millimetres. An eighth is exact in floating point.
+fn in_millimetres(vertex: Vertex) -> String {
+    format!("{},{}", vertex.0 as f64 / 8.0, vertex.1 as f64 / 8.0)
 }
 
 /// The text of a sheet in units, or that it is refused.

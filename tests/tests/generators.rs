@@ -33,6 +33,8 @@ fn each_kind_is_listed_once() {
     let names = |all: &[String]| all.iter().cloned().collect::<HashSet<_>>().len();
     let kinds = OutlineKind::ALL.map(|kind| format!("{kind:?}"));
     assert_eq!(names(&kinds), OutlineKind::ALL.len());
+    let kinds = StrokeKind::ALL.map(|kind| format!("{kind:?}"));
+    assert_eq!(names(&kinds), StrokeKind::ALL.len());
     let damages = Damage::ALL.map(|damage| format!("{damage:?}"));
     assert_eq!(names(&damages), Damage::ALL.len());
     let damages = ListDamage::ALL.map(|damage| format!("{damage:?}"));
@@ -92,6 +94,31 @@ fn check_kind(kind: OutlineKind, words: &[u16], size: u16) {
         }
         _ => {}
     }
+}
+
+/// Outlines that draw something twice are in the limits; as pieces they pass, and most
+/// of these do draw something twice. How often each kind does is in retrace.rs.
+#[test]
+fn outlines_and_pieces_with_strokes() {
+    let mut drawn_twice = 0;
+    for seed in 0..300 {
+        let mut random = Random::new(seed);
+        let most = random.pick(&[3, 9, 100, 16_000]);
+        let size = random.word(3, most);
+        for kind in StrokeKind::ALL {
+            let words = stroke_outline(&mut random, kind, size);
+            assert!(words.len().is_multiple_of(2) && (6..=128).contains(&words.len()));
+            assert!(words.iter().all(|&word| word <= size), "{kind:?} {words:?}");
+        }
+        let pieces = stroke_pieces(&mut random, 4, size.min(300));
+        assert_eq!(pieces.len(), 4);
+        for piece in pieces {
+            assert!(is_sound(&piece.outline, piece.mask), "{piece:?}");
+            drawn_twice += u32::from(reference::retrace(&piece.outline) != Ok(None));
+        }
+    }
+    println!("{drawn_twice} pieces of 1,200 draw something twice");
+    assert!(drawn_twice > 600);
 }
 
 #[test]

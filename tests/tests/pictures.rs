@@ -34,6 +34,43 @@ fn a_small_job() {
     has("<text x='0em' y='7.80em'>2 refused 13</text>");
 }
 
+/// A square of 4 by 4 units with a spur to x = 8: the spur is drawn to and fro, so it is
+/// dashed twice, over the piece.
+#[test]
+fn a_stretch_drawn_twice() {
+    let spur = [0, 0, 4, 0, 4, 4, 8, 4, 4, 4, 0, 4];
+    let dashes = "<path class='twice' d='M400 -400L800 -400M400 -400L800 -400'/>\n";
+    let legend = "<text x='12em' y='6.2em'>dashed: drawn twice</text>\n";
+    let picture = draw(&sheet(10, 2, 10, &[(&spur, 1)]));
+    let piece = picture.find("<polygon").expect("a piece");
+    assert!(
+        picture.find(dashes).is_some_and(|place| place > piece),
+        "{picture}"
+    );
+    assert_eq!(picture.matches(legend).count(), 1, "{picture}");
+    // A quarter turn sends (4, 4) and (8, 4) to (0, 4) and (0, 8).
+    let picture = draw(&sheet(10, 2, 10, &[(&spur, 2)]));
+    assert!(
+        picture.contains("<path class='twice' d='M0 -400L0 -800M0 -400L0 -800'/>\n"),
+        "{picture}"
+    );
+    // A part of an edge is dashed once: the other edge goes on before it.
+    let picture = draw(&sheet(10, 2, 10, &[(&[0, 0, 6, 0, 2, 0, 2, 4], 1)]));
+    assert!(
+        picture.contains("<path class='twice' d='M200 -0L600 -0'/>\n"),
+        "{picture}"
+    );
+    // Two such pieces, one legend.
+    let picture = draw(&sheet(8, 2, 10, &[(&spur, 1), (&S, 1), (&spur, 1)]));
+    assert_eq!(picture.matches("<path class='twice' ").count(), 2);
+    assert_eq!(picture.matches(legend).count(), 1, "{picture}");
+    // A piece that is refused has no dashes; nor has one that draws nothing twice.
+    let picture = draw(&sheet(3, 2, 10, &[(&spur, 1)]));
+    assert!(picture.contains("1 refused 13") && !picture.contains("dashed"));
+    let picture = draw(&sheet(10, 2, 10, &[(&S, 1)]));
+    assert!(!picture.contains("<path class='twice'") && !picture.contains("dashed"));
+}
+
 #[test]
 fn a_refused_job() {
     let picture = draw(&sheet(10, 2, 10, &[(&S, 1), (&CROSSED, 1)]));

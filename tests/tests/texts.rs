@@ -5,7 +5,7 @@ use common::*;
 use reference::generate::{
     any_job, damaged_text, job, text_at_limit, text_of_job, Random, TextDamage,
 };
-use reference::text::{sheet_of_text, text_of_sheet};
+use reference::text::{notes_on_text, sheet_of_text, text_of_sheet};
 
 fn accepted(text: &str, job: &[u8]) {
     assert_eq!(sheet_of_text(text.as_bytes()), Ok(job.to_vec()), "{text}");
@@ -172,6 +172,39 @@ fn refused_jobs() {
     bad(&(most + &long), "job refused 2 0");
 }
 
+/// A line for each piece that draws a stretch twice, in millimetres, also where the
+/// text is in units.
+#[test]
+fn notes() {
+    let knife = "mm, where a knife may cut into another piece\n";
+    let spur = "0,0 0.5,0 0.5,0.5 1,0.5 0.5,0.5 0,0.5";
+    let text = format!("mm\nstrip 1.25 0.25 10\npiece 1 {spur}\n");
+    let note = format!("line 3: drawn twice from 0.5,0.5 to 1,0.5 {knife}");
+    assert!(sheet_of_text(text.as_bytes()).is_ok());
+    assert_eq!(notes_on_text(text.as_bytes()), note);
+    // The same in units; a square before it, and after it a spur from 15,999, upwards and back down, in line 6.
+    let text = format!(
+        "strip 16000 2 10\n{SQUARE}piece 1 0,0 4,0 4,4 8,4 4,4 0,4\n\n# a spur\n\
+         piece 1 0,0 15999,0 15999,4 15999,1 15999,4 0,4"
+    );
+    let notes = format!("{note}line 6: drawn twice from 1999.875,0.125 to 1999.875,0.5 {knife}");
+    assert!(sheet_of_text(text.as_bytes()).is_ok());
+    assert_eq!(notes_on_text(text.as_bytes()), notes);
+    // Of several stretches that of the first two edges.
+    let text = "strip 10 2 10\npiece 1 0,0 8,0 2,0 2,4 4,4 2,4 0,4";
+    let note = format!("line 2: drawn twice from 0.25,0 to 1,0 {knife}");
+    assert_eq!(notes_on_text(text.as_bytes()), note);
+    // Nothing, and where there is no job.
+    for text in [
+        &format!("strip 40 2 10\n{SQUARE}"),
+        "strip 10 2 10\n",
+        "strip",
+        "",
+    ] {
+        assert_eq!(notes_on_text(text.as_bytes()), "");
+    }
+}
+
 /// A good text gives the sheet of its job, however it is written.
 #[test]
 fn texts_of_jobs() {
@@ -214,6 +247,15 @@ fn samples() {
         assert_eq!(
             text_of_sheet(&sheet),
             text_of_sheet(&file("sheet")),
+            "{name}"
+        );
+        // The window mounts of holes have a bridge, from the corner to the window and back.
+        let notes = notes_on_text(&file("txt"));
+        let bridges = notes.matches(": drawn twice from 0,0 to 40,50 mm,").count();
+        let expected = if name == "holes" { 2 } else { 0 };
+        assert_eq!(
+            (bridges, notes.lines().count()),
+            (expected, expected),
             "{name}"
         );
     }

@@ -6,18 +6,11 @@ use mathlib.Core.Logic.{_≢_}
 use mathlib.Core.List.{List}
 use Prim.Native.Nat.{ℕ}
 use native.Mathlib.Omega.{arith}
-use borrow.Author.Tests.{not-true, not-false}
 use Rattle.defs.specs.Computing.Test.{ask}
 use Rattle.defs.specs.Computing.Cells.{ordersb}
 use Rattle.defs.specs.Computing.Calls.{q7b, q8b, q11b, outlineNo}
+use Rattle.laws.proofs.Tests.{said-no, said-yes}
 use Rattle.asked.specs.Answers.{SomeCell, orderNo, FirstNo}
-
--- the answer of a test that is asked by `if !r`
-pub said-no : {r b : Bool} → r ≡ b → not r ≡ true → b ≡ false
-said-no {r} e y = sym e ∙ not-true r y
-
-pub said-yes : {r b : Bool} → r ≡ b → not r ≡ false → b ≡ true
-said-yes {r} e y = sym e ∙ not-false r y
 
 abbrev to10 : Bool → Bool → Bool → Bool → ℕ
 to10 a b c d = ask a 7 λ _. ask b 8 λ _. ask c 9 λ _. ask d 10 λ _. 0

@@ -24,7 +24,7 @@ use Rattle.cells.specs.Put.{PutRuns}
 use Rattle.outline.specs.Vertex.{Lent}
 use Rattle.tables.specs.Flat.{Laid, tableOf}
 use Rattle.tables.specs.Piece.{Stands}
-use Rattle.tables.proofs.FirstFree.{first-at}
+use Rattle.laws.proofs.First.{first-at}
 use Rattle.tables.proofs.Flats.{table-flat}
 use Rattle.tables.proofs.Copies.{NoneBefore, not-free}
 use Rattle.walk.specs.declared.Spot.{Spot}

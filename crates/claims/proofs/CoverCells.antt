@@ -85,26 +85,28 @@ module _
       rises i k i' k' l e = rw (e .0, e .1) (stretches-rise none 0 (getD held i' []) k (apart i') (rw (e .1) at l))
 
 -- a cover call is granted where no question gets "no", and then says how many runs there are
-record Granted (o : List ℕ) (t R n : ℕ) : Type 0 where
-  resolution : resolutionb R ≡ true
-  none-no : outlineNo o (leb t mostTurn) (2 ^ t) R ≡ 0
-  count : n ≡ countRuns (pieceRuns o t R)
+pub record Granted (o : List ℕ) (t R words n : ℕ) : Type 0 where
+  pub resolution : resolutionb R ≡ true
+  pub none-no : outlineNo o (leb t mostTurn) (2 ^ t) R ≡ 0
+  pub room : q12b o (2 ^ t) R words ≡ true
+  pub count : n ≡ countRuns (pieceRuns o t R)
 
-granted : (o : List ℕ) (t R words n : ℕ) → Runs n ≡ coverAnswer o t R words → Granted o t R n
+pub granted : (o : List ℕ) (t R words n : ℕ) → Runs n ≡ coverAnswer o t R words → Granted o t R words n
 unfolding coverAnswer
-granted o t R words n e = go (resolutionb R) refl (outlineNo o (leb t mostTurn) (2 ^ t) R) refl (q12b o (2 ^ t) R words) e
+granted o t R words n e = go (resolutionb R) refl (outlineNo o (leb t mostTurn) (2 ^ t) R) refl (q12b o (2 ^ t) R words) refl e
   where
     go : (b : Bool) → resolutionb R ≡ b → (m : ℕ) → outlineNo o (leb t mostTurn) (2 ^ t) R ≡ m → (c : Bool) →
+        q12b o (2 ^ t) R words ≡ c →
         Runs n ≡
         (ask b (Refused (refusal 16 0)) λ _.
         ask (eqb m 0) (Refused (refusal m 1)) λ _.
         ask c (Refused (refusal 12 1)) λ _. Runs (countRuns (pieceRuns o t R))) →
-        Granted o t R n
-    go false e3 m e7 c e = let z : _≡_ {A = ℕ} 0 1 = cc in absurd (omega arith)
-    go true e3 (suc m) e7 c e =
+        Granted o t R words n
+    go false e3 m e7 c e12 e = let z : _≡_ {A = ℕ} 0 1 = cc in absurd (omega arith)
+    go true e3 (suc m) e7 c e12 e =
         let f = rw (eqb·suc-zero m) at e in let z : _≡_ {A = ℕ} 0 1 = cc in absurd (omega arith)
-    go true e3 zero e7 false e = let z : _≡_ {A = ℕ} 0 1 = cc in absurd (omega arith)
-    go true e3 zero e7 true e = record { resolution = e3; none-no = e7; count = cc }
+    go true e3 zero e7 false e12 e = let z : _≡_ {A = ℕ} 0 1 = cc in absurd (omega arith)
+    go true e3 zero e7 true e12 e = record { resolution = e3; none-no = e7; room = e12; count = cc }
 
 -- what is then written
 cells-are : (o : List ℕ) (t R : ℕ) (rest : List ℕ) → resolutionb R ≡ true → outlineNo o (leb t mostTurn) (2 ^ t) R ≡ 0 →

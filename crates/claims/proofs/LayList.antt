@@ -4,10 +4,11 @@ use mathlib.Core.Path.{_≡_, refl, sym, ap, _∙_}
 use mathlib.Core.Bool.{Bool, true}
 use mathlib.Core.Option.{none}
 use mathlib.Core.List.{List, []}
-use Prim.Native.Nat.{ℕ, _+_, _*_, _<_}
+use Prim.Native.Nat.{ℕ, _+_, _*_, _≤_, _<_}
 use native.Mathlib.Omega.{arith}
 use lib.Dec.{leb, eqb}
 use lib.ListN.{length, getD, replicate}
+use borrow.Author.Tests.{leb-true}
 use Rattle.defs.specs.declared.Refusal.{Refusal}
 use Rattle.defs.specs.declared.Fate.{Fate}
 use Rattle.defs.specs.declared.Entry.{Entry}
@@ -28,11 +29,11 @@ use Rattle.sheets.proofs.Asking.{asked, some-none}
 use Rattle.sheets.proofs.Passing.{Held, none-held}
 use Rattle.sheets.proofs.Answers.{not-refused}
 use Rattle.tables.proofs.Empty.{column-none, empty-writable}
-use Rattle.claims.specs.Trace.{Call, Trace}
+use Rattle.claims.specs.Trace.{Call, Calls, Trace}
 use Rattle.claims.specs.Demand3.{Demand3-holds}
-use Rattle.claims.specs.Laying.{LaysList, Lay-is-a-list, Lay-demand3}
+use Rattle.claims.specs.Laying.{pieceAt, LaysList, Lay-is-a-list, Lay-demand3}
 use Rattle.claims.proofs.Whole.{demand3-holds}
-use Rattle.claims.proofs.LayTotals.{pieceAt, fateAt, placed-counted, used-reached, entries-words}
+use Rattle.claims.proofs.LayTotals.{fateAt, placed-counted, used-reached, entries-words}
 use Rattle.claims.proofs.LayStrips.{answerAt, fates-are, Strips, strips}
 
 -- a granted lay has passed 4, and the other questions of its sheet
@@ -50,17 +51,18 @@ lay-refused r e = let z : _≡_ {A = ℕ} 0 1 = cc in omega arith
 same-totals : {t u : Totals} → Laid t ≡ Laid u → t ≡ u
 same-totals e = cc
 
-record LayGranted (b : List ℕ) (strip work : ℕ) (t : Totals) : Type 0 where
-  held : Held b
-  long : lengthb (sheetN b) strip ≡ true
-  totals :
+pub record LayGranted (b : List ℕ) (strip out work : ℕ) (t : Totals) : Type 0 where
+  pub held : Held b
+  pub room : 4 * length (pieceRecords b) ≤ out
+  pub long : lengthb (sheetN b) strip ≡ true
+  pub totals :
       t ≡
       record {
         placed = placedIn (layEntries b strip work);
         used = usedIn (sheetR b) (sheetPieces b) (layEntries b strip work);
       }
 
-lay-granted : (b : List ℕ) (strip out work : ℕ) (t : Totals) → Laid t ≡ layAnswer b strip out work → LayGranted b strip work t
+pub lay-granted : (b : List ℕ) (strip out work : ℕ) (t : Totals) → Laid t ≡ layAnswer b strip out work → LayGranted b strip out work t
 unfolding layAnswer
 lay-granted b strip out work t e =
     let h = not-refused (sheetNo b (lengthb (sheetN b) strip)) (sym e) lay-refused in
@@ -68,12 +70,13 @@ lay-granted b strip out work t e =
     let e15 = asked (leb (4 * length (pieceRecords b)) out) _ (h .1) (lay-refused (refusal 15 0)) in
     record {
       held = none-held b (rw four at (h .0));
+      room = leb-true (4 * length (pieceRecords b)) out (e15 .0);
       long = four;
       totals = sym (same-totals (e15 .1));
     }
 
 -- an opened strip is one with the empty table
-opened-step : (W R N : ℕ) (s s' : List ℕ) → limitsNo W R N ≡ 0 → lengthb N (length s) ≡ true →
+pub opened-step : (W R N : ℕ) (s s' : List ℕ) → limitsNo W R N ≡ 0 → lengthb N (length s) ≡ true →
     Left W R N (length s) (λ k. getD (replicate N []) k []) s' → OpenStep W R N s Opened s'
 unfolding openAnswer OpenLeaves
 opened-step W R N s s' limits four l =
@@ -112,10 +115,10 @@ module _ {b s out work : List ℕ} {t : Totals} {s' out' work' : List ℕ} (x : 
   abbrev entries : List Entry
   entries = layEntries b (length s) (length work)
 
-  given : LayGranted b (length s) (length work) t
+  pub given : LayGranted b (length s) (length out) (length work) t
   given = lay-granted b (length s) (length out) (length work) t (x .answer)
 
-  between : Strips W R N Q (length s) work empty ps s'
+  pub between : Strips W R N Q (length s) work empty ps s'
   unfolding LayLeaves
   between =
       strips (given .held .holds .limits) (length-decides N (length s) .0 (given .long)) work empty ps s' (empty-writable W N Q)
@@ -131,13 +134,12 @@ module _ {b s out work : List ℕ} {t : Totals} {s' out' work' : List ℕ} (x : 
         work-after = cleared work;
       }
 
-  abbrev trace : Trace W R N
+  abbrev calls : Calls
+  calls = record { lent = s; count = length ps; call = call; strip = between .strip }
+
+  abbrev trace : Trace W R N calls
   trace =
       record {
-        lent = s;
-        count = length ps;
-        call = call;
-        strip = between .strip;
         open-step =
             opened-step W R N s (between .strip 0) (limits-none W R N .1 (given .held .holds .limits)) (given .long) (between .first);
         place-step = between .step;
@@ -151,25 +153,26 @@ module _ {b s out work : List ℕ} {t : Totals} {s' out' work' : List ℕ} (x : 
   unfolding layEntries
   fates = λ i m. fates-are W R N Q (length work) 1 empty ps m i
 
-  output : (m i : ℕ) → m < length ps → i < 4 → getD out' (4 * m + i) 0 ≡ getD (fateWords (fateOf (call m .answer))) i 0
+  pub output : (m i : ℕ) → m < length ps → i < 4 → getD out' (4 * m + i) 0 ≡ getD (fateWords (fateOf (call m .answer))) i 0
   unfolding layOutput
   output m i h l =
       ap (λ (w : List ℕ). getD w (4 * m + i) 0) (x .output) ∙
       entries-words entries _ m i (omega (arith, entries-long)) l ∙
       ap (λ (f : ℕ → Fate). getD (fateWords (f m)) i 0) fates
 
-  used : Used R (λ m. call m .outline) (λ m. fateOf (call m .answer)) (length ps) (t .used)
+  pub used : Used R (λ m. call m .outline) (λ m. fateOf (call m .answer)) (length ps) (t .used)
   used = rw (given .totals, ← fates) (used-reached R ps entries entries-long)
 
-  placed : CountPlaced (λ m. fateOf (call m .answer)) (length ps) (t .placed)
+  pub placed : CountPlaced (λ m. fateOf (call m .answer)) (length ps) (t .placed)
   placed = rw (given .totals, ← fates, ← entries-long) (placed-counted entries)
 
-  lays-list : LaysList b s t s' out' work
+  abbrev pub lays-list : LaysList b s t s' out' work
   lays-list =
       record {
         pieces = ps;
         sheet = given .held .holds;
-        list = trace;
+        list = calls;
+        steps = trace;
         opens = refl;
         all-of-them = refl;
         outlines = λ m h. refl;
@@ -187,4 +190,4 @@ lay-is-a-list b s out work t s' out' work' x = lays-list x
 
 pub lay-demand3 : Lay-demand3
 unfolding Lay-demand3 Demand3-holds
-lay-demand3 b s out work t s' out' work' x = (lays-list x, demand3-holds _ _ _ (lays-list x .list))
+lay-demand3 b s out work t s' out' work' x = (lays-list x, demand3-holds _ _ _ _ (lays-list x .steps))

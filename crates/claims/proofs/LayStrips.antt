@@ -16,7 +16,8 @@ use Rattle.defs.specs.Computing.Calls.{refusal, placeOn, cleared, Left, PlaceLe
 use Rattle.defs.specs.Computing.Lay.{fateOf, heldAfter, entriesFrom, heldFrom}
 use Rattle.tables.proofs.Written.{Writable, written-left}
 use Rattle.claims.proofs.Fates.{fate-of}
-use Rattle.claims.proofs.LayTotals.{pieceAt, fateAt}
+use Rattle.claims.specs.Laying.{pieceAt}
+use Rattle.claims.proofs.LayTotals.{fateAt}
 use Rattle.claims.proofs.LayTables.{after-writable, answer-is, leaves-is}
 
 -- the answers of a job's calls, with n words in the work buffer

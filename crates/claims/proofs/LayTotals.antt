@@ -17,11 +17,9 @@ use Rattle.defs.specs.Meaning.Sheet.{Piece}
 use Rattle.defs.specs.Meaning.Job.{Used, CountPlaced, none-yet, one-more, refused}
 use Rattle.defs.specs.Computing.Lay.{placedIn, usedIn, entriesWords}
 use Rattle.geom.proofs.Strip.{le-or-lt}
+use Rattle.claims.specs.Laying.{pieceAt}
 
--- the piece and the fate with number m
-abbrev pub pieceAt : List Piece → ℕ → Piece
-pieceAt ps m = getD ps m (record { mask = 0; outline = [] })
-
+-- the fate with number m
 abbrev pub fateAt : List Entry → ℕ → Fate
 fateAt es m = getD es m (record { ordinal = 0; fate = Refused 0 }) .fate
 

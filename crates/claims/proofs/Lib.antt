@@ -1,4 +1,3 @@
-pub mod Refused
 pub mod Refusals
 pub mod Invariant
 pub mod Fates
@@ -11,3 +10,15 @@ pub mod LayTotals
 pub mod LayTables
 pub mod LayStrips
 pub mod LayList
+pub mod Past
+pub mod Refused
+pub mod Asked
+pub mod OutlineNumbers
+pub mod SheetNumbers
+pub mod PlacedAlone
+pub mod ListNumbers
+pub mod Numbers
+pub mod Wrong
+pub mod Choice
+pub mod AnyNumbers
+pub mod LayNumbers

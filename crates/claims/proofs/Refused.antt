@@ -1,4 +1,5 @@
--- Demand 1 from the steps of the calls: each says of a refusal that what was lent stays, and of a work buffer that it is zeros.
+-- Demand 1 from the steps of the calls: each says of a refusal that what was lent stays, of a granted call that what is past the output
+-- stays, and of a work buffer that it is zeros.
 -- Assumes nothing.
 use mathlib.Core.Path.{_≡_, refl, ap, _∙_}
 use mathlib.Core.List.{List}
@@ -8,6 +9,7 @@ use Rattle.defs.specs.Computing.Calls.{OpenLeaves, PlaceLeaves, coverOutput, cl
 use Rattle.defs.specs.Computing.Sheets.{readOutput, writeOutput}
 use Rattle.defs.specs.Computing.Lay.{layOutput, LayLeaves}
 use Rattle.claims.specs.Demand1.{Zero, Demand1}
+use Rattle.claims.proofs.Past.{cover-past, read-past, write-past, lay-past}
 
 zeros-at : (n i : ℕ) → _≡_ {A = ℕ} (getD (replicate n 0) i 0) 0
 zeros-at zero i = refl
@@ -31,6 +33,10 @@ demand1 =
       read-keeps = λ x. x .output;
       write-keeps = λ x. x .output;
       lay-keeps = λ x. (x .strip, x .output);
+      cover-past = cover-past;
+      read-past = read-past;
+      write-past = write-past;
+      lay-past = lay-past;
       place-clears = λ x. zeros _ _ (x .zeros);
       lay-clears = λ x. zeros _ _ (x .zeros);
     }

@@ -69,6 +69,9 @@ module _ {sheet out out' : List ℕ} {f : Figures} (r : ReadStep sheet out (Read
         pieces = ps;
         sheet-holds = given .held .holds;
         list = record { rest = drop (length (listWords ps)) out; words = list-read r };
+        width = ap (λ (g : Figures). g .width) (given .figures);
+        resolution = ap (λ (g : Figures). g .resolution) (given .figures);
+        columns = ap (λ (g : Figures). g .columns) (given .figures);
         granted =
             λ ws o o' a l w small room.
             let size = ap sizeOf (same-pieces l) in

@@ -21,10 +21,10 @@ use Rattle.defs.specs.Meaning.Question.{Asked7to12, AskedBefore13, Question5, Q
 use Rattle.defs.specs.Computing.Cells.{Rows, inRows}
 use Rattle.defs.specs.Computing.Words.{wellFormedb, recordsOf, columnsRuns}
 use Rattle.defs.specs.Computing.Search.{bestBelow, entered}
-use Rattle.defs.specs.Computing.Calls.{placeOn, placeAnswer, PlaceLeaves, OpenLeaves, Left, outlineNo, q9b, q14b}
+use Rattle.defs.specs.Computing.Calls.{placeOn, placeAnswer, PlaceLeaves, OpenLeaves, Left, q9b, q14b}
 use Rattle.geom.proofs.Stretches.{no-rows}
 use Rattle.geom.proofs.Checks.{Passes, checks}
-use Rattle.claims.specs.Trace.{Trace, Places, Occupied}
+use Rattle.claims.specs.Trace.{Calls, Trace, Places, Occupied}
 use Rattle.claims.specs.Demand3.{Demand3, Demand3-holds}
 use Rattle.claims.proofs.Refusals.{outlineNo-not-13}
 use Rattle.claims.proofs.Invariant.{Kept, kept, never-5}
@@ -111,7 +111,7 @@ module _ (W R N Q : ℕ) (held : List (List Rows)) (o : List ℕ) (mask words : 
   placed-if-all a (full e7 e12 p e13 e14) c some-one room = absurd (false≢true (sym e14 ∙ room p e13))
   placed-if-all a (placed e7 e12 p e13 e14) c some-one room = (p, refl)
 
-module _ {W R N : ℕ} (x : Trace W R N) where
+module _ {W R N : ℕ} {x : Calls} (t : Trace W R N x) where
   abbrev Q : ℕ
   Q = recordsOf N (length (x .lent))
 
@@ -132,10 +132,10 @@ module _ {W R N : ℕ} (x : Trace W R N) where
 
   fate : (m : ℕ) → m < x .count → Fate W R N Q (held m) (o m) (mask m) (words m) (x .call m .answer)
   fate m h =
-      let k = kept x m (omega arith) in
+      let k = kept t m (omega arith) in
       subst (Fate W R N Q (held m) (o m) (mask m) (words m))
       (sym
-      (x .place-step m h .answer ∙ answer-on (x .strip m) (o m) (mask m) (words m) (k .well-formed) ∙
+      (t .place-step m h .answer ∙ answer-on (x .strip m) (o m) (mask m) (words m) (k .well-formed) ∙
       placeOn-same _ W _ R _ N _ Q (held m) (o m) (mask m) (words m) (k .width) (k .resolution) (k .columns)
       (ap (λ (a : ℕ). recordsOf a (length (x .strip m))) (k .columns) ∙ ap (λ (a : ℕ). recordsOf N a) (k .long))))
       (fate-of W R N Q (held m) (o m) (mask m) (words m))
@@ -146,7 +146,7 @@ module _ {W R N : ℕ} (x : Trace W R N) where
 
   table-at : (m : ℕ) → m ≤ x .count → Table W N (held m)
   table-at m h =
-      let k = kept x m h in
+      let k = kept t m h in
       subst₂ (λ (a b : ℕ). Table a b (held m)) (k .width) (k .columns) (table-of (x .strip m) (k .well-formed))
 
   best-in : (m : ℕ) (p : Position) → m < x .count → Places (x .call m) p → Best W R N (In (held m)) (o m) (mask m) p
@@ -156,7 +156,7 @@ module _ {W R N : ℕ} (x : Trace W R N) where
 
   resolution-least : (m : ℕ) → m ≤ x .count → 1 ≤ R
   resolution-least m h =
-      let k = kept x m h in
+      let k = kept t m h in
       subst (λ (r : ℕ). 1 ≤ r) (k .resolution) (formed (x .strip m) (k .well-formed) .limits .resolution .at-least)
 
   keeps-at : (m : ℕ) → m < x .count → Passes (o m) (mask m) R (words m) → (t : ℕ) → Allows (mask m) t →
@@ -197,7 +197,7 @@ module _ {W R N : ℕ} (x : Trace W R N) where
   opened-empty i = go (decLt i (columnsOf (x .strip 0)))
     where
       left : Left W R N (length (x .lent)) (λ k. []) (x .strip 0)
-      left = x .open-step .strip
+      left = t .open-step .strip
 
       go : Dec (i < columnsOf (x .strip 0)) → getD (held 0) i [] ≡ []
       go (yes l) = column-at (x .strip 0) i l ∙ left .holds i (subst (λ (n : ℕ). i < n) (left .columns) l)
@@ -218,7 +218,7 @@ module _ {W R N : ℕ} (x : Trace W R N) where
   entered-table m p h e l i = go (decLt i (columnsOf (x .strip (suc m))))
     where
       k : Kept W R N (length (x .lent)) (x .strip m)
-      k = kept x m (omega arith)
+      k = kept t m (omega arith)
 
       goal : Type 0
       goal = getD (held (suc m)) i [] ≡ getD (entered W R (held m) (o m) p) i []
@@ -263,7 +263,7 @@ module _ {W R N : ℕ} (x : Trace W R N) where
         λ a. absurd (no-rows j (subst (λ (rs : List Rows). inRows rs j ≡ true) (opened-empty i) a)),
         λ c. absurd (omega (arith, c .is-earlier)),
       )
-  held-is (suc m) h = step (x .call m .answer) refl (x .place-step m h .strip) (held-is m (omega arith))
+  held-is (suc m) h = step (x .call m .answer) refl (t .place-step m h .strip) (held-is m (omega arith))
     where
       step : (a : Placing) → x .call m .answer ≡ a → PlaceLeaves (x .strip m) (o m) a (x .strip (suc m)) →
           Same (In (held m)) (Occ m) → Same (In (held (suc m))) (Occ (suc m))
@@ -272,7 +272,7 @@ module _ {W R N : ℕ} (x : Trace W R N) where
 
   well-formed-at : (m : ℕ) → m ≤ x .count → WellFormed (x .strip m) Q
   well-formed-at m h =
-      let k = kept x m h in
+      let k = kept t m h in
       subst (WellFormed (x .strip m))
       (ap (λ (a : ℕ). recordsOf a (length (x .strip m))) (k .columns) ∙ ap (λ (a : ℕ). recordsOf N a) (k .long))
       (formed (x .strip m) (k .well-formed))
@@ -336,16 +336,16 @@ module _ {W R N : ℕ} (x : Trace W R N) where
 
   holds-at : (m : ℕ) → m ≤ x .count → (i j : ℕ) → Holds (x .strip m) i j ↔ Occ m i j
   holds-at m h i j =
-      let t = holds-table (x .strip m) (kept x m h .well-formed) i j in
-      (λ a. held-is m h i j .0 (t .0 a), λ c. t .1 (held-is m h i j .1 c))
+      let same = holds-table (x .strip m) (kept t m h .well-formed) i j in
+      (λ a. held-is m h i j .0 (same .0 a), λ c. same .1 (held-is m h i j .1 c))
 
-  demand3 : Demand3 x
+  demand3 : Demand3 W R N x
   unfolding Free
   demand3 =
       record {
         Q = Q;
         opened-with =
-            subst₂ (λ (n w : ℕ). Length n Q w) (kept x 0 (omega arith) .columns) (kept x 0 (omega arith) .long)
+            subst₂ (λ (n w : ℕ). Length n Q w) (kept t 0 (omega arith) .columns) (kept t 0 (omega arith) .long)
             (well-formed-at 0 (omega arith) .long);
         no-point-in-two =
             λ l m p q a b d lm h el em.
@@ -358,11 +358,11 @@ module _ {W R N : ℕ} (x : Trace W R N) where
         free = λ m p h e. best-at m p h e .fits .free;
         best = best-at;
         no-position = no-position-at;
-        never-5 = never-5 x;
+        never-5 = never-5 t;
         places-it = places-at;
         strip-is =
             λ m h.
-            let k = kept x m h in
+            let k = kept t m h in
             record {
               well-formed = well-formed-at m h;
               width = k .width;
@@ -374,4 +374,4 @@ module _ {W R N : ℕ} (x : Trace W R N) where
 
 pub demand3-holds : Demand3-holds
 unfolding Demand3-holds
-demand3-holds W R N x = demand3 x
+demand3-holds W R N x t = demand3 t

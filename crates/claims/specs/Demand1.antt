@@ -1,19 +1,22 @@
 -- Demand 1, as far as it is about values: "a refusal leaves strip and output unchanged and the work buffer zero". That every
--- call ends and touches nothing but what was lent is the language's own promise; which input gets which number is the answer
--- in each call's step. Assumes nothing.
+-- call ends and touches nothing but what was lent is the language's own promise; which input gets which number is in
+-- Numbers. Assumes nothing.
 use mathlib.Core.Path.{_≡_}
 use mathlib.Core.List.{List}
-use Prim.Native.Nat.{ℕ}
-use lib.ListN.{length, getD}
+use Prim.Native.Nat.{ℕ, _*_}
+use lib.ListN.{length, getD, drop}
 use Rattle.defs.specs.declared.Refusal.{Refusal}
+use Rattle.defs.specs.declared.Figures.{Figures}
+use Rattle.defs.specs.declared.Totals.{Totals}
 use Rattle.defs.specs.declared.Opening.the-variants.{Refused as NotOpened}
-use Rattle.defs.specs.declared.Covering.the-variants.{Refused as NotCovered}
+use Rattle.defs.specs.declared.Covering.the-variants.{Runs, Refused as NotCovered}
 use Rattle.defs.specs.declared.Placing.{Placing}
 use Rattle.defs.specs.declared.Placing.the-variants.{Refused as NotPlaced}
-use Rattle.defs.specs.declared.Reading.the-variants.{Refused as NotRead}
-use Rattle.defs.specs.declared.Writing.the-variants.{Refused as NotWritten}
+use Rattle.defs.specs.declared.Reading.the-variants.{Read, Refused as NotRead}
+use Rattle.defs.specs.declared.Writing.the-variants.{Written, Refused as NotWritten}
 use Rattle.defs.specs.declared.Laying.{Laying}
-use Rattle.defs.specs.declared.Laying.the-variants.{Refused as NotLaid}
+use Rattle.defs.specs.declared.Laying.the-variants.{Laid, Refused as NotLaid}
+use Rattle.defs.specs.Meaning.Sheet.{Piece, SheetHolds, listWords}
 use Rattle.defs.specs.Computing.Calls.{OpenStep, CoverStep, PlaceStep}
 use Rattle.defs.specs.Computing.Sheets.{ReadStep, WriteStep}
 use Rattle.defs.specs.Computing.Lay.{LayStep}
@@ -22,6 +25,11 @@ use Rattle.defs.specs.Computing.Lay.{LayStep}
 pub record Zero (work work' : List ℕ) : Type 0 where
   pub long : length work' ≡ length work
   pub zero : (i : ℕ) → getD work' i 0 ≡ 0
+
+-- "Bytes past the output stay": those from k on.
+pub record Past (k : ℕ) (out out' : List ℕ) : Type 0 where
+  pub long : length out' ≡ length out
+  pub stays : drop k out' ≡ drop k out
 
 pub record Demand1 : Type 0 where
   -- "Strip and output keep their words at a refusal."
@@ -38,6 +46,17 @@ pub record Demand1 : Type 0 where
   pub lay-keeps :
       {b s out work s' out' work' : List ℕ} {r : Refusal} → LayStep b s out work (NotLaid r) s' out' work' →
       (s' ≡ s) × (out' ≡ out)
+  -- where the call is granted
+  pub cover-past :
+      {o : List ℕ} {t R n : ℕ} {out out' : List ℕ} → CoverStep o t R out (Runs n) out' → Past (3 * n) out out'
+  pub read-past :
+      {b out out' : List ℕ} {f : Figures} {ps : List Piece} → ReadStep b out (Read f) out' → SheetHolds b ps →
+      Past (length (listWords ps)) out out'
+  pub write-past :
+      {W R N n : ℕ} {ws out out' : List ℕ} → WriteStep W R N ws out (Written n) out' → Past n out out'
+  pub lay-past :
+      {b s out work s' out' work' : List ℕ} {t : Totals} {ps : List Piece} → LayStep b s out work (Laid t) s' out' work' →
+      SheetHolds b ps → Past (4 * length ps) out out'
   -- whatever is answered
   pub place-clears :
       {s o : List ℕ} {mask : ℕ} {work : List ℕ} {a : Placing} {s' work' : List ℕ} →

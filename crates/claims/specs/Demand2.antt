@@ -57,15 +57,19 @@ unfoldable pub Demand2-sheets : Type 0
 Demand2-sheets =
     (W R N n : ℕ) (ws out out' : List ℕ) → WriteStep W R N ws out (Written n) out' → ReadsBack W R N ws (take n out')
 
--- And the other way round: what a granted read gave, written and read again, is the same. The sheet holds pieces, and read's output
--- begins with their list. Take any words ws that begin with that list: the output itself, or its first words alone. A write of them, with
--- the figures that read gave, is granted where the size is at most 65,536 bytes and the output has room, so of write's questions only 2
--- and 15 can get "no". (Pieces of a sheet may share vertex records, and a written sheet has records for each, so it can be larger.) And
--- the sheet that a granted write of them leaves, read into enough room, gives the same figures and the same list.
+-- And the other way round: what a granted read gave, written and read again, is the same. The sheet holds pieces, read's output begins
+-- with their list, and the figures are the sheet's. Take any words ws that begin with that list: the output itself, or its first words
+-- alone. A write of them, with the figures that read gave, is granted where the size is at most 65,536 bytes and the output has room, so
+-- of write's questions only 2 and 15 can get "no". (Pieces of a sheet may share vertex records, and a written sheet has records for each,
+-- so it can be larger.) And the sheet that a granted write of them leaves, read into enough room, gives the same figures and the same
+-- list.
 pub record ReadsAgain (sheet out : List ℕ) (f : Figures) : Type 0 where
   pub pieces : List Piece
   pub sheet-holds : SheetHolds sheet pieces
   pub list : ListHolds out pieces
+  pub width : f .width ≡ sheetW sheet
+  pub resolution : f .resolution ≡ sheetR sheet
+  pub columns : f .columns ≡ sheetN sheet
   pub granted :
       (ws o o' : List ℕ) (a : Writing) → ListHolds ws pieces → WriteStep (f .width) (f .resolution) (f .columns) ws o a o' →
       sizeOf pieces ≤ mostBytes → sizeOf pieces ≤ length o → a ≡ Written (sizeOf pieces)

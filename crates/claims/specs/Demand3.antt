@@ -1,4 +1,5 @@
--- Demand 3 as one claim about a whole list of calls. Assumes nothing.
+-- Demand 3 as one claim about a whole list of calls: it speaks of what the calls were lent, answered and left, and of no program.
+-- Assumes nothing.
 use mathlib.Core.Path.{_≡_}
 use mathlib.Core.Logic.{_↔_, _≢_}
 use mathlib.Core.List.{List}
@@ -11,9 +12,9 @@ use Rattle.defs.specs.Meaning.Cell.{Cells}
 use Rattle.defs.specs.Meaning.Strip.{Length, WellFormed, Holds, widthOf, resolutionOf, columnsOf}
 use Rattle.defs.specs.Meaning.Placing.{moved, OnStrip, Free, Best}
 use Rattle.defs.specs.Meaning.Question.{AskedBefore13, Question13, Question14}
-use Rattle.claims.specs.Trace.{Trace, Places, Occupied}
+use Rattle.claims.specs.Trace.{Calls, Trace, Places, Occupied}
 
-module _ {W R N : ℕ} (x : Trace W R N) where
+module _ (x : Calls) where
   abbrev outline : ℕ → List ℕ
   outline m = x .call m .outline
 
@@ -21,8 +22,8 @@ module _ {W R N : ℕ} (x : Trace W R N) where
   mask m = x .call m .mask
 
   -- what call m asks before 13
-  abbrev Asked : ℕ → Type 0
-  Asked m = AskedBefore13 (x .strip m) (outline m) (mask m) R (length (x .call m .work))
+  abbrev Asked : ℕ → ℕ → Type 0
+  Asked R m = AskedBefore13 (x .strip m) (outline m) (mask m) R (length (x .call m .work))
 
 -- A strip of these figures that holds the cells C and no others.
 pub record StripIs (W R N Q : ℕ) (s : List ℕ) (C : Cells) : Type 0 where
@@ -32,7 +33,7 @@ pub record StripIs (W R N Q : ℕ) (s : List ℕ) (C : Cells) : Type 0 where
   pub columns : columnsOf s ≡ N
   pub holds : (i j : ℕ) → Holds s i j ↔ C i j
 
-pub record Demand3 {W R N : ℕ} (x : Trace W R N) : Type 0 where
+pub record Demand3 (W R N : ℕ) (x : Calls) : Type 0 where
   pub Q : ℕ
   pub opened-with : Length N Q (length (x .lent))
   -- "no point lies inside two placed pieces"
@@ -51,12 +52,12 @@ pub record Demand3 {W R N : ℕ} (x : Trace W R N) : Type 0 where
   pub no-position :
       (m : ℕ) → m < x .count →
       (numberOf (x .call m .answer) ≡ 13) ↔
-      (Asked x m × ¬ Question13 W R N (Occupied R (x .call) m) (outline x m) (mask x m))
+      (Asked x R m × ¬ Question13 W R N (Occupied R (x .call) m) (outline x m) (mask x m))
   -- "never 5"
   pub never-5 : (m : ℕ) → m < x .count → numberOf (x .call m .answer) ≢ 5
   -- "a call whose checks all pass places": 5 and 7 to 12 as asked, a free position, and 14 of the best one
   pub places-it :
-      (m : ℕ) → m < x .count → Asked x m →
+      (m : ℕ) → m < x .count → Asked x R m →
       Question13 W R N (Occupied R (x .call) m) (outline x m) (mask x m) →
       ((p : Position) → Best W R N (Occupied R (x .call) m) (outline x m) (mask x m) p →
       Question14 R Q (Occupied R (x .call) m) (outline x m) p) →
@@ -67,4 +68,4 @@ pub record Demand3 {W R N : ℕ} (x : Trace W R N) : Type 0 where
 
 -- "One claim over every list of place calls from a freshly opened strip, refused calls anywhere among them"
 unfoldable pub Demand3-holds : Type 0
-Demand3-holds = (W R N : ℕ) (x : Trace W R N) → Demand3 x
+Demand3-holds = (W R N : ℕ) (x : Calls) → Trace W R N x → Demand3 W R N x

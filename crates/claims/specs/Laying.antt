@@ -9,19 +9,24 @@ use Rattle.defs.specs.Answer.{fateWords}
 use Rattle.defs.specs.Meaning.Sheet.{Piece, SheetHolds, sheetW, sheetR, sheetN}
 use Rattle.defs.specs.Meaning.Job.{Used, CountPlaced}
 use Rattle.defs.specs.Computing.Lay.{fateOf, LayStep}
-use Rattle.claims.specs.Trace.{Trace}
+use Rattle.claims.specs.Trace.{Calls, Trace}
 use Rattle.claims.specs.Demand3.{Demand3}
+
+-- piece m, counted from 0
+abbrev pub pieceAt : List Piece → ℕ → Piece
+pieceAt ps m = getD ps m (record { mask = 0; outline = [] })
 
 -- "Lay reads a sheet, opens the lent strip and places the pieces in chain order, going on after a piece that is refused.
 -- Output is four words a piece … The answer adds pieces placed and used columns"
 pub record LaysList (b s : List ℕ) (t : Totals) (s' out' work : List ℕ) : Type 0 where
   pub pieces : List Piece
   pub sheet : SheetHolds b pieces
-  pub list : Trace (sheetW b) (sheetR b) (sheetN b)
+  pub list : Calls
+  pub steps : Trace (sheetW b) (sheetR b) (sheetN b) list
   pub opens : list .lent ≡ s
   pub all-of-them : list .count ≡ length pieces
-  pub outlines : (m : ℕ) → m < length pieces → list .call m .outline ≡ getD pieces m (record { mask = 0; outline = [] }) .outline
-  pub masks : (m : ℕ) → m < length pieces → list .call m .mask ≡ getD pieces m (record { mask = 0; outline = [] }) .mask
+  pub outlines : (m : ℕ) → m < length pieces → list .call m .outline ≡ pieceAt pieces m .outline
+  pub masks : (m : ℕ) → m < length pieces → list .call m .mask ≡ pieceAt pieces m .mask
   pub works : (m : ℕ) → m < length pieces → length (list .call m .work) ≡ length work
   pub leaves : list .strip (list .count) ≡ s'
   pub output :
@@ -38,4 +43,4 @@ Lay-is-a-list =
 unfoldable pub Lay-demand3 : Type 0
 Lay-demand3 =
     (b s out work : List ℕ) (t : Totals) (s' out' work' : List ℕ) →
-    LayStep b s out work (Laid t) s' out' work' → (l : LaysList b s t s' out' work) × Demand3 (l .list)
+    LayStep b s out work (Laid t) s' out' work' → (l : LaysList b s t s' out' work) × Demand3 (sheetW b) (sheetR b) (sheetN b) (l .list)

@@ -3,3 +3,6 @@ pub mod Demand1
 pub mod Demand2
 pub mod Demand3
 pub mod Laying
+pub mod Numbers
+pub mod Wrong
+pub mod Choice

@@ -19,19 +19,22 @@ pub record Call : Type 0 where
   pub answer : Placing
   pub work-after : List ℕ
 
--- "A list begins after a granted open, with nothing placed. Each call gets … the strip as open or the call before it,
--- granted or refused, left it; nothing else writes the strip meanwhile."
--- The calls are call 0 .. call (count - 1); strip m are the words before call m, and strip count those after the list.
-pub record Trace (W R N : ℕ) : Type 0 where
+-- A list of calls on one strip, by any program: the words lent to open; call 0 .. call (count - 1); strip m are the words before
+-- call m, and strip count those after the list.
+pub record Calls : Type 0 where
   pub lent : List ℕ
   pub count : ℕ
   pub call : ℕ → Call
   pub strip : ℕ → List ℕ
-  pub open-step : OpenStep W R N lent Opened (strip 0)
+
+-- "A list begins after a granted open, with nothing placed. Each call gets … the strip as open or the call before it,
+-- granted or refused, left it; nothing else writes the strip meanwhile.": its steps are those of open and place.
+pub record Trace (W R N : ℕ) (x : Calls) : Type 0 where
+  pub open-step : OpenStep W R N (x .lent) Opened (x .strip 0)
   pub place-step :
-      (m : ℕ) → m < count →
-      PlaceStep (strip m) (call m .outline) (call m .mask) (call m .work) (call m .answer)
-      (strip (suc m)) (call m .work-after)
+      (m : ℕ) → m < x .count →
+      PlaceStep (x .strip m) (x .call m .outline) (x .call m .mask) (x .call m .work) (x .call m .answer)
+      (x .strip (suc m)) (x .call m .work-after)
 
 -- "the calls alone, by their arguments and answers, say what is placed: a granted place call makes one placed piece, its
 -- outline moved to the position answered, …; a refused one, whatever its number, makes none."

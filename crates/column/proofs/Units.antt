@@ -4,13 +4,14 @@ use mathlib.Core.Path.{_≡_, sym, subst}
 use mathlib.Core.Bool.{true}
 use mathlib.Core.Logic.{inl, inr, ⊎-elim, _↔_}
 use mathlib.Core.List.{List}
-use Prim.Native.Nat.{ℕ, zero, suc, _+_, _*_, _-_, _≤_, _<_}
+use Prim.Native.Nat.{ℕ, _+_, _*_, _-_, _≤_, _<_}
 use native.Mathlib.Omega.{arith}
 use lib.ListN.{length}
 use Rattle.defs.specs.Meaning.Outline.{vy, sides, KeepsOrder}
-use Rattle.defs.specs.Meaning.Turn.{turned, greatest}
+use Rattle.defs.specs.Meaning.Turn.{turned}
 use Rattle.defs.specs.Meaning.Cell.{Covered}
 use Rattle.defs.specs.Computing.Cells.{coveredb}
+use Rattle.laws.proofs.Extremes.{greatest-limit}
 use Rattle.geom.proofs.Strip.{lt-or-le}
 use Rattle.geom.proofs.Cells.{narrow, widen}
 use Rattle.geom.proofs.Computed.{cell-covered}
@@ -33,11 +34,6 @@ module _ {o : List ℕ} {l r f h : ℕ} (k : Lent o) (b : BoundsOf o l r f h) wh
       ⊎-elim (λ q. let v = vertex-2 k b t i s (omega arith) in omega (arith, v .up, v .y-most))
       (λ q. let v = vertex-3 k b t i s (omega arith) in omega (arith, v .up, v .y-most)) (lt-or-le t 3))
       (lt-or-le t 2)
-
-  greatest-limit : (g : ℕ → ℕ) (n m : ℕ) → ((i : ℕ) → i < n → g i ≤ m) → greatest g n ≤ m
-  unfolding greatest
-  greatest-limit g zero m q = omega arith
-  greatest-limit g (suc n) m q = let z = greatest-limit g n m (λ i l. q i (omega arith)) in omega (arith, q n (omega arith))
 
   module _ (t : ℕ) (m : t ≤ 3) (keeps : KeepsOrder (turned o t)) where
     some-sides : 0 < sides (turned o t)

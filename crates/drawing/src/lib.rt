@@ -6,14 +6,16 @@ use defs::Reading;
 use defs::Totals;
 use frame::Scene;
 
-// Every picture fits: 200 pieces of 64 vertices of 17 bytes and 200 bytes more each, and 8,192 bytes for the rest.
-pub const ROOM: usize = 270000;
+// Every picture fits: 200 pieces of 64 vertices of 17 bytes, 64 stretches of 34 bytes and 230 bytes more each, and 8,192 bytes for the
+// rest.
+pub const ROOM: usize = 710000;
 
 // The picture of a job that is laid.
 fn put_picture(out: &mut [u8], s: Scene, list: &[u16], entries: &[u16], work: &mut [u16]) -> usize {
     let a = frame::put_ground(out, s);
     let b = shapes::put_pieces(out, a, s.resolution, s.font, list, entries, work);
-    frame::put_around(out, b, s, marks::word(list, 0), entries)
+    let c = shapes::put_twice(out, b, s.resolution, s.font, list, entries);
+    frame::put_around(out, c, s, b < c, marks::word(list, 0), entries)
 }
 
 // What was read. A sheet that is laid is not refused.

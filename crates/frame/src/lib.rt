@@ -116,7 +116,7 @@ fn thickness(s: Scene) -> u64 {
 }
 
 // The numbers of the head. Around the strip there are 2.5 em beside it and 3 em above it.
-fn head_of(s: Scene) -> [u64; 15] {
+fn head_of(s: Scene) -> [u64; 16] {
     let font = s.font as u64;
     let h = high(s);
     let top = h + 3 * font;
@@ -127,6 +127,7 @@ fn head_of(s: Scene) -> [u64; 15] {
         top,
         span(s) + 5 * font,
         top + below(s),
+        thickness(s),
         thickness(s),
         h,
         shown,
@@ -154,6 +155,7 @@ fn put_head(out: &mut [u8], s: Scene) -> usize {
 .end{stroke:#b3261e;stroke-width:.14em}
 .more{stroke:#fff;stroke-width:.2em;stroke-dasharray:.5em}
 .piece{fill:#cfe2f3;fill-rule:evenodd;stroke:#1b3a57;stroke-linejoin:round;stroke-width:%l}
+.twice{stroke:#b3261e;stroke-width:%l;stroke-dasharray:.3em}
 .middle{text-anchor:middle}
 .mark{text-anchor:middle;font-size:.8em;fill:#555}
 </style>
@@ -316,11 +318,33 @@ fn put_end(out: &mut [u8], at: usize) -> usize {
     svg::fill(out, at, b"</svg>\n", &[], 0)
 }
 
+// What dashes mean, if there are any.
+fn put_dashed(out: &mut [u8], at: usize, dashed: bool) -> usize {
+    if dashed {
+        return svg::fill(
+            out,
+            at,
+            b"<text x='12em' y='6.2em'>dashed: drawn twice</text>\n",
+            &[],
+            0,
+        );
+    }
+    at
+}
+
 // What stands around the strip, and the end of the picture.
-pub fn put_around(out: &mut [u8], at: usize, s: Scene, count: u16, entries: &[u16]) -> usize {
+pub fn put_around(
+    out: &mut [u8],
+    at: usize,
+    s: Scene,
+    dashed: bool,
+    count: u16,
+    entries: &[u16],
+) -> usize {
     let a = put_text(out, at, s);
-    let b = put_refusals(out, a, s, count, entries);
-    put_end(out, b)
+    let b = put_dashed(out, a, dashed);
+    let c = put_refusals(out, b, s, count, entries);
+    put_end(out, c)
 }
 
 // The picture of a job that is refused: the sentence that program `lay` prints.

@@ -1,10 +1,12 @@
 pub mod Tests
 pub mod Lists
+pub mod First
 pub mod Stores
 pub mod Occurs
 pub mod Pigeonhole
 pub mod Questions
 pub mod Turns
+pub mod Extremes
 pub mod Order
 pub mod Walks
 pub mod Chains

@@ -1,7 +1,7 @@
 -- Boolean tests read as facts: a test decides a statement where it is true exactly when the statement holds. The kit's
 -- borrow.Author.Tests has leb, ltb and eqb; here are their combinations.
 -- Assumes nothing.
-use mathlib.Core.Path.{_≡_, refl, ap, subst, _∙_}
+use mathlib.Core.Path.{_≡_, refl, sym, ap, subst, _∙_}
 use mathlib.Core.Logic.{_↔_, _⊎_, inl, inr, ⊎-elim, ⊎-map}
 use mathlib.Core.Bool.{Bool, true, false, not, _&&_, _||_, false≢true}
 use mathlib.Core.List.{List, [], _∷_}
@@ -10,7 +10,7 @@ use native.Mathlib.Omega.{arith}
 use native.Mathlib.Decide.{decLt}
 use lib.Dec.{leb, ltb, eqb, eqb·suc-zero}
 use lib.ListN.{length, getD}
-use borrow.Author.Tests.{leb-true, ltb-true, eqb-true, not-true, le-leb, lt-ltb, eq-eqb, ne-eqb}
+use borrow.Author.Tests.{leb-true, ltb-true, eqb-true, not-true, not-false, le-leb, lt-ltb, eq-eqb, ne-eqb}
 use Rattle.defs.specs.Computing.Test.{anyTo, allTo, all}
 
 -- The test b is true exactly when P holds.
@@ -150,3 +150,10 @@ all-decides f P d xs = (
   λ e i h. d (getD xs i 0) .0 (all-getD f xs i e h),
   λ h. all-of f xs (λ i l. d (getD xs i 0) .1 (h i l)),
 )
+
+-- the answer of a test that is asked by `if !r`
+pub said-no : {r b : Bool} → r ≡ b → not r ≡ true → b ≡ false
+said-no {r} e y = sym e ∙ not-true r y
+
+pub said-yes : {r b : Bool} → r ≡ b → not r ≡ false → b ≡ true
+said-yes {r} e y = sym e ∙ not-false r y

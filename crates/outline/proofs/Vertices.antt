@@ -4,17 +4,17 @@ use mathlib.Core.Path.{_≡_, refl, ap, ap₂, sym, subst, _∙_}
 use mathlib.Core.Bool.{Bool, true, false, cond}
 use mathlib.Core.Logic.{⊎-elim}
 use mathlib.Core.List.{List}
-use Prim.Native.Nat.{ℕ, zero, suc, _+_, _*_, _-_, _≤_, _<_, min, max}
+use Prim.Native.Nat.{ℕ, suc, _+_, _*_, _-_, _≤_, _<_, min, max}
 use native.Mathlib.Omega.{arith}
 use lib.ListN.{getD}
 use lib.Dec.{leb}
 use borrow.Author.Tests.{leb-true, leb-false, ne-eqb}
 use Rattle.defs.specs.Meaning.Outline.{vx, vy, sides, after, Edge, edgeAt, edgeBetween}
 use Rattle.defs.specs.Meaning.Turn.{turned}
+use Rattle.laws.proofs.Extremes.{least-at, most-at, most-limit}
 use Rattle.laws.proofs.Turns.{leastN, mostN, turn-0-x, turn-0-y, turn-1-x, turn-1-y, turn-2-x, turn-2-y, turn-3-x, turn-3-y}
 use Rattle.geom.proofs.Extent.{sides-turned}
 use Rattle.geom.proofs.Strip.{lt-or-le}
-use Rattle.geom.proofs.Column.{and-last}
 use Rattle.outline.specs.Vertex.{Lent, BoundsOf, FrameOf, Distance, VertexOf, SideOf, Small, edgeOf}
 
 pub least-one : (f : ℕ → ℕ) → f 0 ≡ leastN f (1 - 1)
@@ -39,23 +39,6 @@ most-more {a} f i h p q =
     let g : suc (i - 1) ≡ i = omega arith in
     q ∙ ap (λ (m : ℕ). max m (f i)) p ∙ sym (ap (mostN f) e ∙ ap (λ (x : ℕ). max (mostN f (i - 1)) (f x)) g)
 
-least-at : (f : ℕ → ℕ) (n i : ℕ) → i < suc n → leastN f n ≤ f i
-unfolding leastN
-least-at f zero i h = let e : i ≡ 0 = omega arith in subst (λ (x : ℕ). f 0 ≤ f x) (sym e) (omega arith)
-least-at f (suc n) i h =
-    and-last (suc n) (λ i. min (leastN f n) (f (suc n)) ≤ f i) (λ i l. let z = least-at f n i l in omega arith) (omega arith) i h
-
-most-at : (f : ℕ → ℕ) (n i : ℕ) → i < suc n → f i ≤ mostN f n
-unfolding mostN
-most-at f zero i h = let e : i ≡ 0 = omega arith in subst (λ (x : ℕ). f x ≤ f 0) (sym e) (omega arith)
-most-at f (suc n) i h =
-    and-last (suc n) (λ i. f i ≤ max (mostN f n) (f (suc n))) (λ i l. let z = most-at f n i l in omega arith) (omega arith) i h
-
-most-limit : (f : ℕ → ℕ) (n m : ℕ) → ((i : ℕ) → f i ≤ m) → mostN f n ≤ m
-unfolding mostN
-most-limit f zero m h = h zero
-most-limit f (suc n) m h = let z = most-limit f n m h in omega (arith, h (suc n))
-
 module _ {o : List ℕ} {l r f h : ℕ} (k : Lent o) (b : BoundsOf o l r f h) where
   pub x-least : (i : ℕ) → i < sides o → l ≤ vx o i
   x-least i s = omega (arith, b .left, least-at (vx o) (sides o - 1) i (omega arith))
@@ -70,10 +53,10 @@ module _ {o : List ℕ} {l r f h : ℕ} (k : Lent o) (b : BoundsOf o l r f h) wh
   y-most i s = omega (arith, b .head, most-at (vy o) (sides o - 1) i (omega arith))
 
   pub right-limit : r ≤ 16000
-  right-limit = omega (arith, b .right, most-limit (vx o) (sides o - 1) 16000 (λ i. k .small (2 * i)))
+  right-limit = omega (arith, b .right, most-limit (vx o) (sides o - 1) 16000 (λ i _. k .small (2 * i)))
 
   pub head-limit : h ≤ 16000
-  head-limit = omega (arith, b .head, most-limit (vy o) (sides o - 1) 16000 (λ i. k .small (2 * i + 1)))
+  head-limit = omega (arith, b .head, most-limit (vy o) (sides o - 1) 16000 (λ i _. k .small (2 * i + 1)))
 
   module _ (t i : ℕ) (s : i < sides o) where
     pub vertex-0 : t ≡ 0 → VertexOf o t i (vx o i - l) (vy o i - f)
@@ -174,6 +157,18 @@ module _ {o : List ℕ} {l r f h : ℕ} (k : Lent o) (b : BoundsOf o l r f h) wh
 pub after-is : (n i : ℕ) → i + 1 < n → i + 1 ≡ after n i
 after-is n i h = sym (ap (λ (b : Bool). cond b 0 (i + 1)) (ne-eqb (i + 1) n (omega arith)))
 
+-- In either order of its ends an edge is within the limits.
+pub small-edge : (xa ya xb yb : ℕ) → xa ≤ 16000 → ya ≤ 16000 → xb ≤ 16000 → yb ≤ 16000 → {xl yl xr yr : ℕ} →
+    edgeOf xl yl xr yr ≡ edgeBetween xa ya xb yb → Small xl yl xr yr
+small-edge xa ya xb yb ax ay bx by' e = subst Fits (sym e) (ends-fit (leb xa xb) refl)
+  where
+    Fits : Edge → Type 0
+    Fits e = Small (e .xl) (e .yl) (e .xr) (e .yr)
+
+    ends-fit : (b : Bool) → leb xa xb ≡ b → Fits (cond b (edgeOf xa ya xb yb) (edgeOf xb yb xa ya))
+    ends-fit true h = record { order = leb-true xa xb h; right-most = bx; yl-most = ay; yr-most = by' }
+    ends-fit false h = record { order = omega (arith, leb-false xa xb h); right-most = ax; yl-most = by'; yr-most = ay }
+
 -- edge i by its ends
 module _ {o : List ℕ} {t i j xa ya xb yb : ℕ} (hj : j ≡ after (sides o) i) (u : VertexOf o t i xa ya) (v : VertexOf o t j xb yb) where
   same : edgeAt (turned o t) i ≡ edgeBetween xa ya xb yb
@@ -184,19 +179,9 @@ module _ {o : List ℕ} {t i j xa ya xb yb : ℕ} (hj : j ≡ after (sides o) i)
       ∙ ap₂ (λ (x y : ℕ). edgeBetween x y (vx (turned o t) j) (vy (turned o t) j)) (sym (u .across)) (sym (u .up))
       ∙ ap₂ (λ (x y : ℕ). edgeBetween xa ya x y) (sym (v .across)) (sym (v .up))
 
-  -- in either order of its ends the edge is within the limits
-  abbrev Fits : Edge → Type 0
-  Fits e = Small (e .xl) (e .yl) (e .xr) (e .yr)
-
-  ends-fit : (b : Bool) → leb xa xb ≡ b → Fits (cond b (edgeOf xa ya xb yb) (edgeOf xb yb xa ya))
-  ends-fit true h =
-      record { order = leb-true xa xb h; right-most = v .x-most; yl-most = u .y-most; yr-most = v .y-most }
-  ends-fit false h =
-      record { order = omega (arith, leb-false xa xb h); right-most = u .x-most; yl-most = v .y-most; yr-most = u .y-most }
-
   pub side-between : {xl yl xr yr : ℕ} → edgeOf xl yl xr yr ≡ edgeBetween xa ya xb yb → SideOf o t i xl yl xr yr
   side-between e =
-      let s = subst Fits (sym e) (ends-fit (leb xa xb) refl) in
+      let s = small-edge xa ya xb yb (u .x-most) (u .y-most) (v .x-most) (v .y-most) e in
       record { is = e ∙ sym same; order = s .order; right-most = s .right-most; yl-most = s .yl-most; yr-most = s .yr-most }
 
 -- the edge from vertex i to vertex i + 1

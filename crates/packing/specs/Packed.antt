@@ -1,52 +1,51 @@
--- Answers as numbers of 64 bits. Assumes nothing.
-use Prim.Native.Nat.{ℕ, _+_, _*_}
-use Rattle.defs.specs.declared.Laying.{Laying}
-use Rattle.defs.specs.declared.Laying.the-variants.{Laid, Refused as NotLaid}
-use Rattle.defs.specs.declared.Opening.{Opening}
-use Rattle.defs.specs.declared.Opening.the-variants.{Opened, Refused as NotOpened}
-use Rattle.defs.specs.declared.Covering.{Covering}
-use Rattle.defs.specs.declared.Covering.the-variants.{Runs, Refused as NotCovered}
-use Rattle.defs.specs.declared.Placing.{Placing}
-use Rattle.defs.specs.declared.Placing.the-variants.{Placed, Refused as NotPlaced}
-use Rattle.defs.specs.declared.Reading.{Reading}
-use Rattle.defs.specs.declared.Reading.the-variants.{Read, Refused as NotRead}
-use Rattle.defs.specs.declared.Writing.{Writing}
-use Rattle.defs.specs.declared.Writing.the-variants.{Written, Refused as NotWritten}
-use Rattle.defs.specs.declared.Refusal.{Refusal}
+-- Answers as numbers of 64 bits: the number, the ordinal and the values that document 01 has for each case of an answer (Answer of defs)
+-- in one number, and how they are got back from it. Assumes nothing.
+use mathlib.Core.Path.{_≡_}
+use mathlib.Core.Logic.{_≢_}
+use mathlib.Core.List.{[], _∷_}
+use Prim.Native.Nat.{ℕ, _+_, _*_, _/_, _%_}
+use lib.ListN.{length, getD, take}
+use Rattle.defs.specs.Answer.{Outcome}
 
 -- four numbers of 16 bits, the first in the low bits
 abbrev pub packed : ℕ → ℕ → ℕ → ℕ → ℕ
 packed a b c d = a + 65536 * b + 4294967296 * c + 281474976710656 * d
 
--- number, then ordinal
-abbrev pub refusalNumber : Refusal → ℕ
-refusalNumber r = packed (r .number) (r .ordinal) 0 0
+-- What include/vikelodu.h reads from an answer: (uint16_t)answer, (uint16_t)(answer >> 16), (uint16_t)(answer >> 32),
+-- (uint16_t)(answer >> 48), (uint32_t)(answer >> 32).
+abbrev pub first16 : ℕ → ℕ
+first16 n = n % 65536
 
-abbrev pub openNumber : Opening → ℕ
-openNumber Opened = 0
-openNumber (NotOpened r) = refusalNumber r
+abbrev pub second16 : ℕ → ℕ
+second16 n = n / 65536 % 65536
 
--- the number of runs in the high 32 bits
-abbrev pub coverNumber : Covering → ℕ
-coverNumber (Runs n) = 4294967296 * n
-coverNumber (NotCovered r) = refusalNumber r
+abbrev pub third16 : ℕ → ℕ
+third16 n = n / 4294967296 % 65536
 
--- turn, column, height after the number 0
-abbrev pub placeNumber : Placing → ℕ
-placeNumber (Placed p) = packed 0 (p .turn) (p .column) (p .height)
-placeNumber (NotPlaced r) = refusalNumber r
+abbrev pub fourth16 : ℕ → ℕ
+fourth16 n = n / 281474976710656 % 65536
 
--- W, R, N after the number 0
-abbrev pub readNumber : Reading → ℕ
-readNumber (Read f) = packed 0 (f .width) (f .resolution) (f .columns)
-readNumber (NotRead r) = refusalNumber r
+abbrev pub high32 : ℕ → ℕ
+high32 n = n / 4294967296 % 4294967296
 
--- the size in bytes in the high 32 bits
-abbrev pub writeNumber : Writing → ℕ
-writeNumber (Written n) = 4294967296 * n
-writeNumber (NotWritten r) = refusalNumber r
+-- four numbers of 16 bits in n
+pub record Four (n a b c d : ℕ) : Type 0 where
+  pub is : n ≡ packed a b c d
+  pub first : first16 n ≡ a
+  pub second : second16 n ≡ b
+  pub third : third16 n ≡ c
+  pub fourth : fourth16 n ≡ d
 
--- pieces placed, used columns after the number 0
-abbrev pub layNumber : Laying → ℕ
-layNumber (Laid t) = packed 0 (t .placed) (t .used) 0
-layNumber (NotLaid r) = refusalNumber r
+-- An answer in n: its number in the low 16 bits, then the ordinal of a refusal, or the values, each in 16 bits.
+pub record Packs (n : ℕ) (a : Outcome) : Type 0 where
+  pub is : n ≡ packed (a .number) (a .ordinal + getD (a .values) 0 0) (getD (a .values) 1 0) (getD (a .values) 2 0)
+  pub number : first16 n ≡ a .number
+  pub ordinal : a .number ≢ 0 → second16 n ≡ a .ordinal
+  pub values : take (length (a .values)) (second16 n ∷ third16 n ∷ fourth16 n ∷ []) ≡ a .values
+
+-- The same with one value, in the high 32 bits.
+pub record PacksWide (n : ℕ) (a : Outcome) : Type 0 where
+  pub is : n ≡ packed (a .number) (a .ordinal) (getD (a .values) 0 0) 0
+  pub number : first16 n ≡ a .number
+  pub ordinal : a .number ≢ 0 → second16 n ≡ a .ordinal
+  pub values : take (length (a .values)) (high32 n ∷ []) ≡ a .values

@@ -7,8 +7,8 @@ use native.Mathlib.Omega.{arith}
 use lib.ListN.{length, getD, take, drop, length-drop}
 use lib.Seq.{sets, length-sets, drop-drop, getD-drop, length-take-le}
 use borrow.Author.Tests.{lt-leb}
-use Rattle.defs.specs.Meaning.Sheet.{Piece}
-use Rattle.defs.specs.Computing.Sheets.{recordBytes, outlineBytes, verticesBytes, piecesBytes, verticesIn, listPiece, listTails}
+use Rattle.defs.specs.Meaning.Sheet.{Piece, listPiece}
+use Rattle.defs.specs.Computing.Sheets.{recordBytes, outlineBytes, verticesBytes, piecesBytes, verticesIn, listTails}
 use Rattle.laws.proofs.Stores.{sets-append}
 use Rattle.sheets.proofs.PiecesBack.{outline-bytes-long}
 use Rattle.onerecord.specs.Link.{linkOf}

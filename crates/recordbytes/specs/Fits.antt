@@ -2,7 +2,8 @@
 use mathlib.Core.List.{List, map}
 use Prim.Native.Nat.{ℕ, suc, _+_, _*_, _≤_, _<_}
 use lib.ListN.{length, getD, drop}
-use Rattle.defs.specs.Computing.Sheets.{verticesIn, listPiece, listTails}
+use Rattle.defs.specs.Meaning.Sheet.{listPiece}
+use Rattle.defs.specs.Computing.Sheets.{verticesIn, listTails}
 
 pub record OutlineFits (list : List ℕ) (from count first : ℕ) (out : List ℕ) (to : ℕ) : Type 0 where
   pub in-list : from + 2 * count ≤ length list

@@ -5,7 +5,8 @@ ghost use mathlib.Core.List.{map};
 ghost use Prim.Native.Nat.{_+_, _*_, _≤_, _<_};
 ghost use lib.ListN.{length, take, drop};
 ghost use lib.Seq.{sets};
-ghost use Rattle.defs.specs.Computing.Sheets.{outlineBytes, verticesBytes, piecesBytes, listPiece, listTails};
+ghost use Rattle.defs.specs.Meaning.Sheet.{listPiece};
+ghost use Rattle.defs.specs.Computing.Sheets.{outlineBytes, verticesBytes, piecesBytes, listTails};
 ghost use Rattle.recordbytes.specs.Fits.{OutlineFits, ListFits};
 
 // The vertex records of an outline of `count` vertices at place `from` of the list; the first has number `first`.

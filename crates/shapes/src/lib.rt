@@ -1,50 +1,149 @@
-// The placed pieces of a picture: outlines and ordinals.
+// The placed pieces of a picture: outlines, what they draw twice, and ordinals.
 
-ghost use Prim.Native.Nat.{_≤_};
-ghost use lib.ListN.{length};
+ghost use mathlib.Core.Path.{_≡_};
+ghost use Prim.Native.Nat.{_+_, _*_, _≤_, _<_};
+ghost use Rattle.defs.specs.Meaning.Outline.{sides};
 ghost use Rattle.outline.specs.Vertex.{Lent, BoundsOf};
+ghost use Rattle.shapes.specs.Points.{PointOf};
 use defs::Covering;
+use defs::Position;
+use defs::Retracing;
 use marks::Spot;
 use outline::Bounds;
-use outline::Vertex;
+use outline::Side;
 
-// Where a piece lies: its turn, and the lower left corner of its bounds, in units.
-struct Place {
-    turn: u16,
-    x: u32,
-    y: u16,
+// A vertex of a placed piece, in units.
+pub struct Point {
+    pub x: u32,
+    pub y: u32,
 }
 
-// A vertex of a piece at its place.
-fn put_point(out: &mut [u8], at: usize, v: Vertex, p: Place, font: u32) -> usize {
-    let x = 100 * (p.x as u64 + v.x as u64);
-    let y = 100 * (p.y as u64 + v.y as u64);
-    svg::fill(out, at, b" %l,-%l", &[x, y], font)
+// A vertex of the turned outline, moved to the piece's position.
+fn moved(x: u16, y: u16, r: u16, p: Position) -> Point
+    requires { ⌜ (x ≤ 16000) × (y ≤ 16000) ⌝ }
+    ensures { λ v. ⌜ (v .x ≡ x + p .column * r) × (v .y ≡ y + p .height) ⌝ }
+{
+    Point {
+        x: x as u32 + p.column as u32 * r as u32,
+        y: y as u32 + p.height as u32,
+    }
 }
 
-// The vertices of a piece, through its turn.
-fn put_points(out: &mut [u8], at: usize, o: &[u16], b: Bounds, p: Place, font: u32) -> usize
+// Vertex i of the placed piece: that of document 01's moved piece.
+fn point_at(o: &[u16], b: Bounds, r: u16, p: Position, i: usize) -> Point
+    requires { ⌜ Lent (now o) ⌝ ∗ ⌜ BoundsOf (now o) (b .left) (b .right) (b .foot) (b .head) ⌝ ∗ ⌜ (p .turn ≤ 3) × (i < sides (now o)) ⌝ }
+    ensures { λ v. ⌜ PointOf (now (o .entry)) r p i (v .x) (v .y) ⌝ }
+{
+    let v = outline::vertex_at(o, b, p.turn, i);
+    moved(v.x, v.y, r, p)
+}
+
+fn put_point(out: &mut [u8], at: usize, v: Point, font: u32) -> usize {
+    svg::fill(
+        out,
+        at,
+        b" %l,-%l",
+        &[100 * v.x as u64, 100 * v.y as u64],
+        font,
+    )
+}
+
+// The vertices of a piece.
+fn put_points(
+    out: &mut [u8],
+    at: usize,
+    o: &[u16],
+    b: Bounds,
+    r: u16,
+    p: Position,
+    font: u32,
+) -> usize
     requires { ⌜ Lent (now o) ⌝ ∗ ⌜ BoundsOf (now o) (b .left) (b .right) (b .foot) (b .head) ⌝ ∗ ⌜ p .turn ≤ 3 ⌝ }
 {
     let n = o.len() / 2;
     let mut i: usize = 0;
     let mut to = at;
     while i < n {
-        let v = outline::vertex_at(o, b, p.turn, i);
-        to = put_point(out, to, v, p, font);
+        let v = point_at(o, b, r, p, i);
+        to = put_point(out, to, v, font);
         i += 1;
     }
     to
 }
 
-// The end of a piece's outline, and its ordinal.
-fn put_ordinal(out: &mut [u8], at: usize, p: Place, t: Spot, font: u32, k: u64) -> usize {
-    let x = 100 * p.x as u64 + t.x as u64;
-    let y = 100 * p.y as u64 + t.y as u64;
+// A stretch of a placed piece that is drawn twice, if it has a length.
+fn put_stretch(out: &mut [u8], at: usize, s: Side, r: u16, p: Position, font: u32) -> usize {
+    if !stretch::is_long(s) {
+        return at;
+    }
+    let x = 100 * frame::length_of(p.column, r) as u64;
+    let y = 100 * p.height as u64;
     svg::fill(
         out,
         at,
-        b"'/><text class='middle' dy='.35em' x='%l' y='-%l' font-size='%l'>%n</text>\n",
+        b"M%l -%lL%l -%l",
+        &[
+            x + 100 * s.xl as u64,
+            y + 100 * s.yl as u64,
+            x + 100 * s.xr as u64,
+            y + 100 * s.yr as u64,
+        ],
+        font,
+    )
+}
+
+// Whether an outline draws a stretch twice.
+fn draws_twice(o: &[u16]) -> bool {
+    match retrace::retrace(o) {
+        Retracing::Twice(_) => true,
+        Retracing::Nowhere => false,
+        Retracing::Refused(_) => false,
+    }
+}
+
+fn put_end(out: &mut [u8], at: usize) -> usize {
+    svg::fill(out, at, b"'/>", &[], 0)
+}
+
+// What a piece draws twice, edge by edge.
+fn put_edges(
+    out: &mut [u8],
+    at: usize,
+    o: &[u16],
+    b: Bounds,
+    r: u16,
+    p: Position,
+    font: u32,
+) -> usize
+    requires { ⌜ Lent (now o) ⌝ ∗ ⌜ BoundsOf (now o) (b .left) (b .right) (b .foot) (b .head) ⌝ ∗ ⌜ p .turn ≤ 3 ⌝ }
+{
+    let n = o.len() / 2;
+    let mut i: usize = 0;
+    let mut to = at;
+    while i < n {
+        let s = stretch::longest_from(o, b, p.turn, i);
+        to = put_stretch(out, to, s, r, p, font);
+        i += 1;
+    }
+    to
+}
+
+// The ordinal of a piece.
+fn put_ordinal(
+    out: &mut [u8],
+    at: usize,
+    r: u16,
+    p: Position,
+    t: Spot,
+    font: u32,
+    k: u64,
+) -> usize {
+    let x = 100 * frame::length_of(p.column, r) as u64 + t.x as u64;
+    let y = 100 * p.height as u64 + t.y as u64;
+    svg::fill(
+        out,
+        at,
+        b"<text class='middle' dy='.35em' x='%l' y='-%l' font-size='%l'>%n</text>\n",
         &[x, y, t.font, k],
         font,
     )
@@ -69,18 +168,36 @@ fn put_inside(
     at: usize,
     o: &[u16],
     long: u16,
-    p: Place,
+    r: u16,
+    p: Position,
     font: u32,
     k: u64,
     work: &mut [u16],
 ) -> usize {
     let count = cover(o, p.turn, long, work);
     let t = marks::spot_of(work, count, long, font as u64, k);
-    put_ordinal(out, at, p, t, font, k)
+    put_ordinal(out, at, r, p, t, font, k)
 }
 
 fn put_start(out: &mut [u8], at: usize) -> usize {
     svg::fill(out, at, b"<polygon class='piece' points='", &[], 0)
+}
+
+// The outline of a piece.
+fn put_outline(
+    out: &mut [u8],
+    at: usize,
+    o: &[u16],
+    b: Bounds,
+    r: u16,
+    p: Position,
+    font: u32,
+) -> usize
+    requires { ⌜ Lent (now o) ⌝ ∗ ⌜ BoundsOf (now o) (b .left) (b .right) (b .foot) (b .head) ⌝ ∗ ⌜ p .turn ≤ 3 ⌝ }
+{
+    let start = put_start(out, at);
+    let a = put_points(out, start, o, b, r, p, font);
+    put_end(out, a)
 }
 
 // A piece with its ordinal.
@@ -88,7 +205,8 @@ fn put_shape(
     out: &mut [u8],
     at: usize,
     o: &[u16],
-    p: Place,
+    r: u16,
+    p: Position,
     font: u32,
     k: u64,
     work: &mut [u16],
@@ -97,9 +215,8 @@ fn put_shape(
 {
     let b = outline::bounds_of(o);
     let e = outline::extent_of(o, b, p.turn);
-    let start = put_start(out, at);
-    let a = put_points(out, start, o, b, p, font);
-    put_inside(out, a, o, e.w, p, font, k, work)
+    let a = put_outline(out, at, o, b, r, p, font);
+    put_inside(out, a, o, e.w, r, p, font, k, work)
 }
 
 // A placed piece. Each outline that was placed passes 7 and 8, and its turn is one of four.
@@ -107,7 +224,8 @@ fn put_piece(
     out: &mut [u8],
     at: usize,
     o: &[u16],
-    p: Place,
+    r: u16,
+    p: Position,
     font: u32,
     k: u64,
     work: &mut [u16],
@@ -121,36 +239,21 @@ fn put_piece(
     if numbers::MOST_TURN < p.turn {
         return at;
     }
-    put_shape(out, at, o, p, font, k, work)
-}
-
-// The outline of the piece that begins at word `from` of a cut list; without vertices where there is none.
-fn outline_at(list: &[u16], from: usize) -> &[u16]
-    ensures { λ r. ⌜ length (now r) ≤ 131070 ⌝ }
-{
-    if numbers::LIST_WORDS < from {
-        return &list[..0];
-    }
-    let start = from + 2;
-    let end = start + 2 * marks::word(list, from) as usize;
-    if list.len() < end {
-        return &list[..0];
-    }
-    &list[start..end]
+    put_shape(out, at, o, r, p, font, k, work)
 }
 
 // Where piece i was placed. A refused one has no turn.
-fn place_of(entries: &[u16], i: u16, r: u16) -> Place {
+fn place_of(entries: &[u16], i: u16) -> Position {
     let j = numbers::ENTRY_WORDS * i as usize;
     let turn = marks::word(entries, j + 1);
-    Place {
+    Position {
         turn: if marks::word(entries, j) == 0 {
             turn
         } else {
             numbers::MOST_TURN + 1
         },
-        x: frame::length_of(marks::word(entries, j + 2), r),
-        y: marks::word(entries, j + 3),
+        column: marks::word(entries, j + 2),
+        height: marks::word(entries, j + 3),
     }
 }
 
@@ -169,16 +272,73 @@ pub fn put_pieces(
     let mut from: usize = 1;
     let mut to = at;
     while i < count {
-        let o = outline_at(list, from);
+        let o = listed::outline_at(list, from);
         to = put_piece(
             out,
             to,
             o,
-            place_of(entries, i, r),
+            r,
+            place_of(entries, i),
             font,
             i as u64 + 1,
             work,
         );
+        from += 2 + o.len();
+        i += 1;
+    }
+    to
+}
+
+fn put_dashes(out: &mut [u8], at: usize) -> usize {
+    svg::fill(out, at, b"<path class='twice' d='", &[], 0)
+}
+
+fn put_line_end(out: &mut [u8], at: usize) -> usize {
+    svg::fill(out, at, b"'/>\n", &[], 0)
+}
+
+// Dashes over what an outline draws twice.
+fn put_dashed(out: &mut [u8], at: usize, o: &[u16], r: u16, p: Position, font: u32) -> usize
+    requires { ⌜ Lent (now o) ⌝ ∗ ⌜ p .turn ≤ 3 ⌝ }
+{
+    let b = outline::bounds_of(o);
+    let a = put_dashes(out, at);
+    let e = put_edges(out, a, o, b, r, p, font);
+    put_line_end(out, e)
+}
+
+// The same of a piece that is placed and draws something twice.
+fn put_stretches(out: &mut [u8], at: usize, o: &[u16], r: u16, p: Position, font: u32) -> usize {
+    if !checks::seven(o) {
+        return at;
+    }
+    if !checks::eight(o) {
+        return at;
+    }
+    if p.turn <= numbers::MOST_TURN {
+        if draws_twice(o) {
+            return put_dashed(out, at, o, r, p, font);
+        }
+    }
+    at
+}
+
+// What the placed pieces draw twice, over all of them: such a stretch may lie over another piece.
+pub fn put_twice(
+    out: &mut [u8],
+    at: usize,
+    r: u16,
+    font: u32,
+    list: &[u16],
+    entries: &[u16],
+) -> usize {
+    let count = marks::word(list, 0);
+    let mut i: u16 = 0;
+    let mut from: usize = 1;
+    let mut to = at;
+    while i < count {
+        let o = listed::outline_at(list, from);
+        to = put_stretches(out, to, o, r, place_of(entries, i), font);
         from += 2 + o.len();
         i += 1;
     }

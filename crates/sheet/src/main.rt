@@ -1,4 +1,4 @@
-// Program `sheet`: writes the sheet of the text on standard input, or to standard error what is wrong with the text.
+// Program `sheet`: writes the sheet of the text on standard input, and to standard error what it draws twice or what is wrong with it.
 
 use libc::STDERR_FILENO;
 use libc::STDIN_FILENO;
@@ -10,11 +10,12 @@ const INPUT: usize = 262145;
 
 const OUTPUT: usize = 65536;
 
-fn run(input: &mut [u8], output: &mut [u8]) {
+fn run(input: &mut [u8], output: &mut [u8], notes: &mut [u8]) {
     let n = io::read_full(STDIN_FILENO, input);
-    match typed::sheet_of(&input[..n], output) {
-        Made::Sheet(r) => {
+    match typed::sheet_of(&input[..n], output, notes) {
+        Made::Sheet(r, m) => {
             io::write_all(STDOUT_FILENO, &output[..r]);
+            io::write_all(STDERR_FILENO, &notes[..m]);
         }
         Made::Message(r) => {
             io::write_all(STDERR_FILENO, &output[..r]);
@@ -25,5 +26,6 @@ fn run(input: &mut [u8], output: &mut [u8]) {
 fn main() {
     let mut input = [0u8; INPUT];
     let mut output = [0u8; OUTPUT];
-    run(&mut input, &mut output);
+    let mut notes = [0u8; notes::ROOM];
+    run(&mut input, &mut output, &mut notes);
 }

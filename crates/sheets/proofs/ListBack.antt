@@ -13,11 +13,11 @@ use lib.ListN.{length, getD, take, drop, take-append-drop, length-append}
 use lib.Seq.{length-take-le, take-append-seam, drop-append-seam}
 use Rattle.defs.specs.Meaning.Limits.{mostPieces}
 use Rattle.defs.specs.Meaning.Strip.{Limits}
-use Rattle.defs.specs.Meaning.Sheet.{Piece, pieceWords, piecesWords, listWords, ListHolds}
+use Rattle.defs.specs.Meaning.Sheet.{Piece, pieceWords, piecesWords, listWords, ListHolds, listPiece}
 use Rattle.defs.specs.Meaning.Question.{Question6List, Question7List}
 use Rattle.defs.specs.Computing.Words.{limitsNo}
 use Rattle.defs.specs.Computing.Calls.{q9b, outlineNo}
-use Rattle.defs.specs.Computing.Sheets.{q6Listb, q7Listb, firstNo, listTails, listPiece, listPieceNo, listPieces, listNo}
+use Rattle.defs.specs.Computing.Sheets.{q6Listb, q7Listb, firstNo, listTails, listPieceNo, listPieces, listNo}
 use Rattle.laws.proofs.Questions.{limits-none, question-6-list, question-7-list}
 use Rattle.sheets.proofs.PiecesBack.{Each, nothing-left, and-more, Shaped}
 use Rattle.sheets.proofs.Asking.{asked, some-none, not-zero, first-none, PiecePasses, shaped}

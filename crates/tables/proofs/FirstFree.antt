@@ -2,11 +2,11 @@
 -- what it finds comes before every other position of that turn that fits; where it finds none, none fits.
 -- Assumes nothing.
 use mathlib.Core.Path.{_≡_, refl, sym, ap, ap₂, subst, _∙_}
-use mathlib.Core.Logic.{_↔_, _⊎_, inl, inr, ⊎-elim, _≢_}
-use mathlib.Core.Bool.{Bool, true, false, cond, false≢true}
+use mathlib.Core.Logic.{_↔_, _⊎_, inl, inr, _≢_}
+use mathlib.Core.Bool.{Bool, true, cond}
 use mathlib.Core.List.{List}
-use mathlib.Core.Option.{Option, none, some, Option·some-injective, Option·none-ne-some, Option·some-ne-none}
-use Prim.Native.Nat.{ℕ, zero, suc, _+_, _-_, _≤_, _<_}
+use mathlib.Core.Option.{Option, none, some}
+use Prim.Native.Nat.{ℕ, _+_, _-_, _≤_, _<_}
 use native.Mathlib.Omega.{arith}
 use Rattle.defs.specs.declared.Position.{Position}
 use Rattle.defs.specs.Meaning.Outline.{sides}
@@ -16,94 +16,10 @@ use Rattle.defs.specs.Meaning.Question.{Question10}
 use Rattle.defs.specs.Computing.Test.{firstFrom}
 use Rattle.defs.specs.Computing.Cells.{Rows, pieceRuns}
 use Rattle.defs.specs.Computing.Search.{freeb, dropN, position, firstFree}
-use Rattle.geom.proofs.Strip.{lt-or-le}
+use Rattle.laws.proofs.First.{first-at, none-at, if-true, if-none}
 use Rattle.laws.proofs.Order.{compare3, Before, LeastInTurn}
 use Rattle.tables.proofs.Tables.{In, Table}
 use Rattle.tables.proofs.FreeTest.{free-decides}
-
--- the first of k, k + 1, .. (n of them) at which f finds something, and what it finds there
-pub record First {A : Type 0} (f : ℕ → Option A) (k n : ℕ) (a : A) : Type 0 where
-  pub at : ℕ
-  pub from : k ≤ at
-  pub below : at < k + n
-  pub finds : f at ≡ some a
-  pub before : (m : ℕ) → k ≤ m → m < at → f m ≡ none
-
--- nothing at k, and nothing from k + 1 on
-from-next : {A : Type 0} (f : ℕ → Option A) (k end : ℕ) → f k ≡ none → ((m : ℕ) → suc k ≤ m → m < end → f m ≡ none) →
-    (m : ℕ) → k ≤ m → m < end → f m ≡ none
-from-next f k end q h m l u =
-    ⊎-elim (λ next. h m next u) (λ back. let e : m ≡ k = omega arith in ap f e ∙ q) (lt-or-le k m)
-
-pub first-at : {A : Type 0} (f : ℕ → Option A) (k n : ℕ) (a : A) → firstFrom f k n ≡ some a → First f k n a
-unfolding firstFrom
-first-at f k zero a e = absurd (Option·none-ne-some a e)
-first-at {A} f k (suc n) a e = go (f k) refl e (first-at f (suc k) n a)
-  where
-    go : (x : Option A) → f k ≡ x → elim x [ none ↦ firstFrom f (suc k) n | some b ↦ some b ] ≡ some a →
-        (firstFrom f (suc k) n ≡ some a → First f (suc k) n a) → First f k (suc n) a
-    go none q r later =
-        let t = later r in
-        record {
-          at = t .at;
-          from = omega (arith, t .from);
-          below = omega (arith, t .below);
-          finds = t .finds;
-          before = from-next f k (t .at) q (t .before);
-        }
-    go (some b) q r later =
-        record { at = k; from = omega arith; below = omega arith; finds = q ∙ r; before = λ m l u. absurd (omega arith) }
-
-pub none-at : {A : Type 0} (f : ℕ → Option A) (k n : ℕ) → firstFrom f k n ≡ none → (m : ℕ) → k ≤ m → m < k + n → f m ≡ none
-unfolding firstFrom
-none-at f k zero e = λ m l u. absurd (omega arith)
-none-at {A} f k (suc n) e = go (f k) refl e (none-at f (suc k) n)
-  where
-    go : (x : Option A) → f k ≡ x → _≡_ {A = Option A} (elim x [ none ↦ firstFrom f (suc k) n | some b ↦ some b ]) none →
-        (firstFrom f (suc k) n ≡ none → (m : ℕ) → suc k ≤ m → m < suc k + n → f m ≡ none) →
-        (m : ℕ) → k ≤ m → m < k + suc n → f m ≡ none
-    go none q r later = from-next f k (k + suc n) q (λ m l u. later r m l (omega arith))
-    go (some b) q r later = absurd (Option·some-ne-none b r)
-
--- and back: what is found first is the first, and where nothing is found there is none
-
--- the search by what is found at k
-from-here : {A : Type 0} (f : ℕ → Option A) (k n : ℕ) (x : Option A) → f k ≡ x →
-    firstFrom f k (suc n) ≡ elim x [ none ↦ firstFrom f (suc k) n | some b ↦ some b ]
-unfolding firstFrom
-from-here f k n x e = ap (λ y. elim y [ none ↦ firstFrom f (suc k) n | some b ↦ some b ]) e
-
-pub first-of : {A : Type 0} (f : ℕ → Option A) (k n : ℕ) (a : A) → First f k n a → firstFrom f k n ≡ some a
-first-of f k zero a h = absurd (omega (arith, h .from, h .below))
-first-of f k (suc n) a h =
-    ⊎-elim
-    (λ l.
-    from-here f k n none (h .before k (omega arith) l) ∙
-    first-of f (suc k) n a
-    (record {
-      at = h .at;
-      from = l;
-      below = omega (arith, h .below);
-      finds = h .finds;
-      before = λ m x y. h .before m (omega arith) y;
-    }))
-    (λ l. let e : k ≡ h .at = omega (arith, h .from) in from-here f k n (some a) (ap f e ∙ h .finds)) (lt-or-le k (h .at))
-
-pub none-of : {A : Type 0} (f : ℕ → Option A) (k n : ℕ) → ((m : ℕ) → k ≤ m → m < k + n → f m ≡ none) → firstFrom f k n ≡ none
-unfolding firstFrom
-none-of f k zero h = refl
-none-of f k (suc n) h =
-    from-here f k n none (h k (omega arith) (omega arith)) ∙
-    none-of f (suc k) n (λ m x y. h m (omega arith) (omega arith))
-
--- what is found where a test passes
-if-true : {A : Type 0} (b : Bool) {x a : A} → cond b (some x) none ≡ some a → (b ≡ true) × (x ≡ a)
-if-true true e = (refl, Option·some-injective _ _ e)
-if-true false {a = a} e = absurd (Option·none-ne-some a e)
-
-if-none : {A : Type 0} (b : Bool) (x : A) → cond b (some x) none ≡ none → b ≢ true
-if-none true x e = absurd (Option·some-ne-none x e)
-if-none false x e = false≢true
 
 module _ (W R N : ℕ) (held : List (List Rows)) (o : List ℕ) (mask : ℕ) (keeps : Question10 o mask)
     (some-side : 0 < sides o) (Rpos : 1 ≤ R) (table : Table W N held) (t : ℕ) (allows : Allows mask t) where

@@ -4,6 +4,7 @@ use Prim.Native.Nat.{ℕ, _≤_}
 use Rattle.typed.specs.declared.Made.{Made}
 use Rattle.typed.specs.declared.Made.the-variants.{Sheet, Message}
 
-abbrev pub Fits : Made → ℕ → Type 0
-Fits (Sheet n) bytes = n ≤ bytes
-Fits (Message n) bytes = n ≤ bytes
+-- in so many bytes of output, and of notes
+abbrev pub Fits : Made → ℕ → ℕ → Type 0
+Fits (Sheet n m) bytes notes = (n ≤ bytes) × (m ≤ notes)
+Fits (Message n) bytes notes = n ≤ bytes

@@ -1,4 +1,4 @@
-// The sheet of a text that a person typed, or what is wrong with the text.
+// The sheet of a text that a person typed, with notes on what it draws twice, or what is wrong with the text.
 
 ghost use Prim.Native.Nat.{_+_, _≤_};
 ghost use lib.ListN.{length};
@@ -80,16 +80,16 @@ fn put_number(out: &mut [u8], line: u16) -> usize
     print::put(out, a, b": ")
 }
 
-// Bytes at the start of the output: of a sheet, or of a message.
+// Bytes at the start of the output: of a sheet, with the bytes of the notes on it, or of a message.
 pub enum Made {
-    Sheet(usize),
+    Sheet(usize, usize),
     Message(usize),
 }
 
 // What is wrong, after the number of its line if that is not 0.
 fn put_message(out: &mut [u8], f: Fault, line: u16) -> Made
     requires { ⌜ 128 ≤ length (now out) ⌝ }
-    ensures { λ a. ⌜ Fits a (length (now (out .exit))) ⌝ }
+    ensures { λ a. ⌜ Fits a (length (now (out .exit))) 0 ⌝ }
 {
     let a = put_number(out, line);
     Made::Message(put_fault(out, a, f))
@@ -109,7 +109,7 @@ fn put_place(out: &mut [u8], at: usize, line: u16) -> usize
 
 fn put_refused(out: &mut [u8], r: Refusal, line: u16) -> Made
     requires { ⌜ 128 ≤ length (now out) ⌝ }
-    ensures { λ a. ⌜ Fits a (length (now (out .exit))) ⌝ }
+    ensures { λ a. ⌜ Fits a (length (now (out .exit))) 0 ⌝ }
 {
     let a = print::put_refusal(out, r);
     Made::Message(put_place(out, a, line))
@@ -136,15 +136,15 @@ fn refused_line(r: Refusal, strip: u16, lines: &[u16]) -> u16 {
     }
 }
 
-// A sheet of n bytes in so much room.
-fn sheet_within(n: u32, room: usize) -> Made
-    ensures { λ a. ⌜ Fits a room ⌝ }
+// A sheet of n bytes in so much room, with so many bytes of notes.
+fn sheet_within(n: u32, room: usize, noted: usize) -> Made
+    ensures { λ a. ⌜ Fits a room noted ⌝ }
 {
     let bytes = n as usize;
     if room < bytes {
-        return Made::Sheet(room);
+        return Made::Sheet(room, noted);
     }
-    Made::Sheet(bytes)
+    Made::Sheet(bytes, noted)
 }
 
 // The write call for a job whose pieces stand in the list.
@@ -155,33 +155,41 @@ fn write(job: Job, list: &mut [u16], out: &mut [u8]) -> Writing
     writes::write(job.width, job.resolution, job.columns, list, out)
 }
 
-fn sheet_of_job(job: Job, list: &mut [u16], lines: &[u16], out: &mut [u8]) -> Made
+// The sheet of a job that is written, and the notes on its pieces.
+fn sheet_of_job(job: Job, list: &mut [u16], lines: &[u16], out: &mut [u8], notes: &mut [u8]) -> Made
     requires { ⌜ 1 ≤ length (now list) ⌝ ∗ ⌜ 128 ≤ length (now out) ⌝ }
-    ensures { λ a. ⌜ Fits a (length (now (out .exit))) ⌝ }
+    ensures { λ a. ⌜ Fits a (length (now (out .exit))) (length (now (notes .exit))) ⌝ }
 {
     match write(job, list, out) {
-        Writing::Written(n) => sheet_within(n, out.len()),
+        Writing::Written(n) => sheet_within(n, out.len(), notes::put_notes(notes, list, lines)),
         Writing::Refused(r) => put_refused(out, r, refused_line(r, job.strip, lines)),
     }
 }
 
-fn sheet_lent(text: &[u8], list: &mut [u16], lines: &mut [u16], out: &mut [u8]) -> Made
+fn sheet_lent(
+    text: &[u8],
+    list: &mut [u16],
+    lines: &mut [u16],
+    out: &mut [u8],
+    notes: &mut [u8],
+) -> Made
     requires { ⌜ 130 ≤ length (now list) ⌝ ∗ ⌜ 128 ≤ length (now out) ⌝ }
-    ensures { λ a. ⌜ Fits a (length (now (out .exit))) ⌝ }
+    ensures { λ a. ⌜ Fits a (length (now (out .exit))) (length (now (notes .exit))) ⌝ }
 {
     match lines::read_text(text, list, lines) {
-        Text::Good(job) => sheet_of_job(job, list, lines, out),
+        Text::Good(job) => sheet_of_job(job, list, lines, out, notes),
         Text::Bad(f, line) => put_message(out, f, line),
     }
 }
 
-pub fn sheet_of(text: &[u8], out: &mut [u8]) -> Made
-    ensures { λ a. ⌜ Fits a (length (now (out .exit))) ⌝ }
+// The sheet of a text with notes on its pieces, or a message.
+pub fn sheet_of(text: &[u8], out: &mut [u8], notes: &mut [u8]) -> Made
+    ensures { λ a. ⌜ Fits a (length (now (out .exit))) (length (now (notes .exit))) ⌝ }
 {
     if out.len() < print::MESSAGE_ROOM {
         return Made::Message(0);
     }
     let mut list = [0u16; numbers::LIST_WORDS];
     let mut lines = [0u16; records::MOST_PIECES];
-    sheet_lent(text, &mut list, &mut lines, out)
+    sheet_lent(text, &mut list, &mut lines, out, notes)
 }

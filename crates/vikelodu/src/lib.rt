@@ -1,6 +1,6 @@
 // The calls as C functions: an answer of several numbers in one of 64 bits.
 
-ghost use Rattle.vikelodu.specs.Packed.{OpenPacked, CoverPacked, PlacePacked, ReadPacked, WritePacked, LayPacked};
+ghost use Rattle.packing.specs.Steps.{OpenPacked, CoverPacked, PlacePacked, ReadPacked, WritePacked, LayPacked, RetracePacked, OpenBytesPacked, PlaceBytesPacked, LayBytesPacked};
 
 // The open call.
 #[no_mangle]
@@ -74,5 +74,56 @@ pub extern "C" fn vikelodu_lay(
     ensures { λ r. ⌜ LayPacked (now (sheet .entry)) (now (strip .entry)) (now (output .entry)) (now (work .entry)) r (now (strip .exit)) (now (output .exit)) (now (work .exit)) ⌝ }
 {
     let a = laying::lay(sheet, strip, output, work);
+    packing::pack_laying(a)
+}
+
+// The retrace call: the numbers of the first two edges that share a stretch after the number 0, or 0 and 0.
+#[no_mangle]
+pub extern "C" fn vikelodu_retrace(outline: &[u16]) -> u64
+    ensures { λ r. ⌜ RetracePacked (now (outline .entry)) r ⌝ }
+{
+    let a = retrace::retrace(outline);
+    packing::pack_retracing(a)
+}
+
+// The open call on a strip passed as bytes.
+#[no_mangle]
+pub extern "C" fn vikelodu_open_bytes(
+    width: u16,
+    resolution: u16,
+    columns: u16,
+    strip: &mut [u8],
+) -> u64
+    ensures { λ r. ⌜ OpenBytesPacked width resolution columns (now (strip .entry)) r (now (strip .exit)) ⌝ }
+{
+    let a = bytecalls::open_bytes(width, resolution, columns, strip);
+    packing::pack_opening(a)
+}
+
+// The place call on buffers passed as bytes.
+#[no_mangle]
+pub extern "C" fn vikelodu_place_bytes(
+    strip: &mut [u8],
+    outline: &[u8],
+    mask: u16,
+    work: &mut [u8],
+) -> u64
+    ensures { λ r. ⌜ PlaceBytesPacked (now (strip .entry)) (now (outline .entry)) mask (now (work .entry)) r (now (strip .exit)) (now (work .exit)) ⌝ }
+{
+    let a = bytecalls::place_bytes(strip, outline, mask, work);
+    packing::pack_placing(a)
+}
+
+// The lay call on buffers passed as bytes.
+#[no_mangle]
+pub extern "C" fn vikelodu_lay_bytes(
+    sheet: &[u8],
+    strip: &mut [u8],
+    output: &mut [u8],
+    work: &mut [u8],
+) -> u64
+    ensures { λ r. ⌜ LayBytesPacked (now (sheet .entry)) (now (strip .entry)) (now (output .entry)) (now (work .entry)) r (now (strip .exit)) (now (output .exit)) (now (work .exit)) ⌝ }
+{
+    let a = bytecalls::lay_bytes(sheet, strip, output, work);
     packing::pack_laying(a)
 }

@@ -24,7 +24,7 @@ use Rattle.tables.specs.Piece.{runColumn, Stands}
 use Rattle.tables.proofs.Flats.{in-flat, in-columns, table-flat}
 use Rattle.tables.proofs.PieceWords.{piece-rows, piece-runs}
 use Rattle.tables.proofs.FreeTest.{Shares, test-by-column, dropN-at, runs-valid}
-use Rattle.tables.proofs.FirstFree.{first-of, none-of}
+use Rattle.laws.proofs.First.{first-of, none-of}
 use Rattle.walk.specs.declared.Spot.the-variants.{Found, None}
 use Rattle.walk.specs.Free.{Frame, FreeTo, NoHeight, Searched}
 

@@ -1,6 +1,7 @@
 //! The public calls, as include/vikelodu.h declares them. Nothing checks these
 //! declarations against the engine, so they are few and plain.
 
+use reference::retrace::EdgePair;
 use reference::{Figures, Position, Refusal, Totals};
 
 mod exported {
@@ -54,6 +55,33 @@ mod exported {
             work: *mut u16,
             work_words: usize,
         ) -> u64;
+        pub fn vikelodu_retrace(outline: *const u16, outline_words: usize) -> u64;
+        pub fn vikelodu_open_bytes(
+            width: u16,
+            resolution: u16,
+            columns: u16,
+            strip: *mut u8,
+            strip_bytes: usize,
+        ) -> u64;
+        pub fn vikelodu_place_bytes(
+            strip: *mut u8,
+            strip_bytes: usize,
+            outline: *const u8,
+            outline_bytes: usize,
+            mask: u16,
+            work: *mut u8,
+            work_bytes: usize,
+        ) -> u64;
+        pub fn vikelodu_lay_bytes(
+            sheet: *const u8,
+            sheet_bytes: usize,
+            strip: *mut u8,
+            strip_bytes: usize,
+            output: *mut u8,
+            output_bytes: usize,
+            work: *mut u8,
+            work_bytes: usize,
+        ) -> u64;
     }
 }
 
@@ -76,12 +104,36 @@ fn granted(answer: u64) -> Result<u64, Refusal> {
     })
 }
 
-pub fn open(w: u16, r: u16, n: u16, strip: &mut [u16]) -> Result<(), Refusal> {
-    // Sound: the function asks nothing of its caller, and reads and writes only what the slice lends.
-    let answer = unsafe { exported::vikelodu_open(w, r, n, strip.as_mut_ptr(), strip.len()) };
+/// Of open, on words or bytes.
+fn opened(answer: u64) -> Result<(), Refusal> {
     let answer = granted(answer)?;
     assert_eq!(answer, 0, "more than a grant: {answer:#x}");
     Ok(())
+}
+
+/// Of place.
+fn placed(answer: u64) -> Result<Position, Refusal> {
+    let answer = granted(answer)?;
+    Ok(Position {
+        turn: word(answer, 16),
+        column: word(answer, 32),
+        height: word(answer, 48),
+    })
+}
+
+/// Of lay.
+fn laid(answer: u64) -> Result<Totals, Refusal> {
+    let answer = granted(answer)?;
+    assert_eq!(answer >> 48, 0, "more than the totals: {answer:#x}");
+    Ok(Totals {
+        placed: word(answer, 16),
+        used: word(answer, 32),
+    })
+}
+
+pub fn open(w: u16, r: u16, n: u16, strip: &mut [u16]) -> Result<(), Refusal> {
+    // Sound: the function asks nothing of its caller, and reads and writes only what the slice lends.
+    opened(unsafe { exported::vikelodu_open(w, r, n, strip.as_mut_ptr(), strip.len()) })
 }
 
 pub fn place(
@@ -91,7 +143,7 @@ pub fn place(
     work: &mut [u16],
 ) -> Result<Position, Refusal> {
     // Sound, as above. The slices share nothing: two are lent to be written, the third to be read.
-    let answer = unsafe {
+    placed(unsafe {
         exported::vikelodu_place(
             strip.as_mut_ptr(),
             strip.len(),
@@ -101,12 +153,6 @@ pub fn place(
             work.as_mut_ptr(),
             work.len(),
         )
-    };
-    let answer = granted(answer)?;
-    Ok(Position {
-        turn: word(answer, 16),
-        column: word(answer, 32),
-        height: word(answer, 48),
     })
 }
 
@@ -170,7 +216,7 @@ pub fn lay(
     work: &mut [u16],
 ) -> Result<Totals, Refusal> {
     // Sound, as above. The slices share nothing: three are lent to be written, the fourth to be read.
-    let answer = unsafe {
+    laid(unsafe {
         exported::vikelodu_lay(
             sheet.as_ptr(),
             sheet.len(),
@@ -181,11 +227,66 @@ pub fn lay(
             work.as_mut_ptr(),
             work.len(),
         )
-    };
+    })
+}
+
+/// The first two edges that share a stretch, if there are such.
+pub fn retrace(outline: &[u16]) -> Result<Option<EdgePair>, Refusal> {
+    // Sound, as above.
+    let answer = unsafe { exported::vikelodu_retrace(outline.as_ptr(), outline.len()) };
     let answer = granted(answer)?;
-    assert_eq!(answer >> 48, 0, "more than the totals: {answer:#x}");
-    Ok(Totals {
-        placed: word(answer, 16),
-        used: word(answer, 32),
+    assert_eq!(answer >> 48, 0, "more than two edges: {answer:#x}");
+    match (word(answer, 16), word(answer, 32)) {
+        (0, 0) => Ok(None),
+        (first, second) => {
+            assert!(0 < first && first < second, "no two edges: {answer:#x}");
+            Ok(Some((first, second)))
+        }
+    }
+}
+
+pub fn open_bytes(w: u16, r: u16, n: u16, strip: &mut [u8]) -> Result<(), Refusal> {
+    // Sound, as above: bytes stand at any address.
+    opened(unsafe { exported::vikelodu_open_bytes(w, r, n, strip.as_mut_ptr(), strip.len()) })
+}
+
+pub fn place_bytes(
+    strip: &mut [u8],
+    outline: &[u8],
+    mask: u16,
+    work: &mut [u8],
+) -> Result<Position, Refusal> {
+    // Sound, as above.
+    placed(unsafe {
+        exported::vikelodu_place_bytes(
+            strip.as_mut_ptr(),
+            strip.len(),
+            outline.as_ptr(),
+            outline.len(),
+            mask,
+            work.as_mut_ptr(),
+            work.len(),
+        )
+    })
+}
+
+pub fn lay_bytes(
+    sheet: &[u8],
+    strip: &mut [u8],
+    output: &mut [u8],
+    work: &mut [u8],
+) -> Result<Totals, Refusal> {
+    // Sound, as above.
+    laid(unsafe {
+        exported::vikelodu_lay_bytes(
+            sheet.as_ptr(),
+            sheet.len(),
+            strip.as_mut_ptr(),
+            strip.len(),
+            output.as_mut_ptr(),
+            output.len(),
+            work.as_mut_ptr(),
+            work.len(),
+        )
     })
 }

@@ -101,15 +101,22 @@ impl<T: Unit> Drop for Guarded<T> {
     }
 }
 
-/// Which unreadable page a buffer stands at.
+/// Which unreadable page a buffer stands at: directly, or one unit from it. Of a
+/// buffer of bytes that is the way to an odd address.
 #[derive(Clone, Copy, Debug)]
 pub enum End {
     After,
     Before,
+    OneAfter,
+    OneBefore,
+}
+
+impl End {
+    pub const ALL: [End; 4] = [End::After, End::Before, End::OneAfter, End::OneBefore];
 }
 
 /// A place for one buffer after another between two unreadable pages, with marks
-/// on the side that has no page, which must stay.
+/// on the sides where no page is, which must stay.
 pub struct Room<T: Unit = u16> {
     pages: Guarded<T>,
 }
@@ -126,20 +133,35 @@ impl<T: Unit> Room<T> {
         }
     }
 
-    /// Where a buffer of this length stands, and the marks beside it.
-    fn places(&self, end: End, length: usize) -> (Range<usize>, Range<usize>) {
-        let start = self.pages.len() - length;
-        match end {
-            End::Before => (start..self.pages.len(), start - MARGIN..start),
-            End::After => (0..length, length..length + MARGIN),
-        }
+    /// Where a buffer of this length stands.
+    fn place(&self, end: End, length: usize) -> Range<usize> {
+        let last = self.pages.len() - length;
+        let start = match end {
+            End::After => 0,
+            End::OneAfter => 1,
+            End::OneBefore => last - 1,
+            End::Before => last,
+        };
+        start..start + length
+    }
+
+    /// The marks before it and after it, as many as there is room for.
+    fn marks(&self, end: End, length: usize) -> [Range<usize>; 2] {
+        let Range { start, end } = self.place(end, length);
+        let all = self.pages.len();
+        [
+            start.saturating_sub(MARGIN)..start,
+            end..all.min(end + MARGIN),
+        ]
     }
 
     /// A buffer that holds this.
     pub fn lend_at(&mut self, end: End, held: &[T]) -> &mut [T] {
-        let (buffer, marks) = self.places(end, held.len());
-        self.pages[marks].fill(T::MARK);
-        let lent = &mut self.pages[buffer];
+        for marks in self.marks(end, held.len()) {
+            self.pages[marks].fill(T::MARK);
+        }
+        let place = self.place(end, held.len());
+        let lent = &mut self.pages[place];
         lent.copy_from_slice(held);
         lent
     }
@@ -156,8 +178,8 @@ impl<T: Unit> Room<T> {
 
     /// Whether the marks beside a buffer of this length stayed.
     pub fn kept_at(&self, end: End, length: usize) -> bool {
-        let (_, marks) = self.places(end, length);
-        self.pages[marks].iter().all(|&mark| mark == T::MARK)
+        let marks = self.marks(end, length).into_iter().flatten();
+        marks.into_iter().all(|at| self.pages[at] == T::MARK)
     }
 
     pub fn kept_before(&self, length: usize) -> bool {

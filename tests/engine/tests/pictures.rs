@@ -6,7 +6,8 @@ use engine::programs::DRAW;
 use reference::figures::{Figures, Piece};
 use reference::generate::outlines::is_sound;
 use reference::generate::{
-    any_figures, damaged_sheet, job, sound_pieces, sound_sheet, Job, Random, SheetDamage, SheetPlan,
+    any_figures, damaged_sheet, job, sound_pieces, sound_sheet, stroke_pieces, Job, Random,
+    SheetDamage, SheetPlan,
 };
 use reference::picture::draw;
 use std::path::{Path, PathBuf};
@@ -113,6 +114,57 @@ fn small_jobs() {
     }
     assert_eq!(pictures.scales, [500, 0, 0]);
     assert!(pictures.with("<polygon") > 250 && pictures.with(" refused 13<") > 100);
+    println!("{} of 500 with dashes", pictures.with(DASHES));
+    assert!(pictures.with(DASHES) > 150);
+}
+
+/// What is drawn twice, and what says so.
+const DASHES: &str = "<path class='twice' ";
+const LEGEND: &str = ">dashed: drawn twice<";
+
+/// Pieces most of which draw something twice, in each turn, at each scale.
+#[test]
+fn pieces_with_dashes() {
+    let mut pictures = Pictures::default();
+    let mut random = Random::new(306);
+    for _ in 0..400 {
+        let width = of_any_size(&mut random, 3, 16_000);
+        let resolution = of_any_size(&mut random, 1, 400);
+        let columns = of_any_size(&mut random, 1, 4_096);
+        let count = random.index(7);
+        let size = of_any_size(&mut random, 3, width.min(1_000));
+        let job = Job {
+            figures: figures(width, resolution, columns),
+            pieces: stroke_pieces(&mut random, count, size),
+        };
+        let picture = pictures.draw(&job.sheet());
+        assert_eq!(picture.contains(DASHES), picture.contains(LEGEND));
+    }
+    let dashed = pictures.with(DASHES);
+    println!("{dashed} of 400 with dashes, scales {:?}", pictures.scales);
+    assert!(dashed > 150 && dashed < 390);
+    assert!(pictures.scales[0] > 50 && pictures.scales[1] > 50);
+}
+
+/// The most dashes: 60 edges to and fro, in each turn.
+#[test]
+fn the_most_dashes() {
+    let mut pictures = Pictures::default();
+    // A square, and 30 spurs from its last corner.
+    let mut outline = vec![0, 0, 40, 0, 40, 40];
+    for spur in 0..30 {
+        outline.extend([0, 40, spur, 39 - spur]);
+    }
+    outline.extend([0, 40]);
+    assert_eq!(outline.len(), 128);
+    for turn in 0..4 {
+        let figures = figures(100, 1, 100);
+        let pieces = pieces(&[&outline], 1 << turn);
+        let picture = pictures.draw(&Job { figures, pieces }.sheet());
+        let (_, dashes) = picture.split_once(DASHES).expect("dashes");
+        let (dashes, _) = dashes.split_once('/').expect("the end of the element");
+        assert!(dashes.matches('L').count() >= 60);
+    }
 }
 
 /// A number up to `most`, as often small as large.
@@ -150,13 +202,15 @@ fn long_strips() {
     for count in [3, 8, 14, 15, 16] {
         let long = random.word(15_000, 16_000);
         let high = random.word(1, 3_000);
-        let bar = [0, 0, long, 0, long - 7, high, 3, high];
+        // It goes back along a part of its last edge but one.
+        let bar = [0, 0, long, 0, long - 7, high, 3, high, 1_234, high, 3, high];
         let width = random.word(high, 2 * high - 1);
         let figures = figures(width, random.word(390, 400), random.word(1_000, 4_096));
         let pieces = pieces(&vec![&bar[..]; count], 1);
         pictures.draw(&Job { figures, pieces }.sheet());
     }
     assert_eq!(pictures.scales, [0, 2, 3]);
+    assert_eq!(pictures.with(DASHES), 5);
 }
 
 /// A spur as long as the piece, whose cells are all in its last column.
@@ -247,6 +301,32 @@ fn the_longest_picture() {
     let picture = pictures.draw(&plan.bytes());
     assert_eq!(picture.matches("<polygon").count(), 200);
     assert!(picture.len() > 200_000, "{}", picture.len());
+    assert_eq!(pictures.scales, [0, 0, 1]);
+}
+
+/// The longest picture with dashes: 200 pieces of 21 vertices walked three times, so
+/// that each of 63 edges is drawn twice; nearly all of their lengths have as many
+/// digits as a length can have.
+#[test]
+fn the_longest_dashes() {
+    let top = (0..19).flat_map(|place| [7_979 - 333 * place, 15_999 - 99 * place]);
+    let ring: Vec<u16> = [0, 0, 7_979, 10_001].into_iter().chain(top).collect();
+    let outline = [&ring[..2], &ring.repeat(3)].concat();
+    assert_eq!(outline.len(), 128);
+    let pieces = pieces(&[&outline], 1);
+    let mut plan = SheetPlan::in_order(figures(16_000, 399, 4_096), &pieces);
+    plan.pieces = (2..202).map(|next| [1, 1, next % 201]).collect();
+    let mut pictures = Pictures::default();
+    let picture = pictures.draw(&plan.bytes());
+    assert_eq!(picture.matches("<polygon").count(), 200);
+    let dashes: Vec<&str> = picture.split(DASHES).skip(1).collect();
+    assert_eq!(dashes.len(), 200);
+    for dashes in dashes {
+        let (dashes, _) = dashes.split_once('/').expect("the end of the element");
+        assert_eq!(dashes.matches('L').count(), 63);
+    }
+    println!("{} bytes", picture.len());
+    assert!(picture.len() > 620_000, "{}", picture.len());
     assert_eq!(pictures.scales, [0, 0, 1]);
 }
 

@@ -3,10 +3,10 @@
 
 use engine::programs::{Printed, SHEET, SHOW};
 use reference::generate::{
-    any_job, damaged_sheet, damaged_text, job, sound_sheet, text_at_limit, text_of_job, Random,
-    SheetDamage, TextDamage,
+    any_job, damaged_sheet, damaged_text, job, small_figures, sound_sheet, stroke_pieces,
+    text_at_limit, text_of_job, Job, Random, SheetDamage, TextDamage,
 };
-use reference::text::{sheet_of_text, text_of_sheet};
+use reference::text::{notes_on_text, sheet_of_text, text_of_sheet};
 use std::collections::BTreeMap;
 
 /// The messages of program `sheet` about a text, and its refusals of a job.
@@ -36,10 +36,12 @@ const MESSAGES: [&str; 23] = [
     "job refused 11",
 ];
 
-/// How many texts were accepted, and how many had each message.
+/// How many texts were accepted, how many of them with a note, and how many had each
+/// message.
 #[derive(Default)]
 struct Kinds {
     accepted: usize,
+    noted: usize,
     messages: BTreeMap<&'static str, usize>,
 }
 
@@ -47,14 +49,17 @@ impl Kinds {
     /// The sheet of the text, if it is accepted.
     fn run(&mut self, text: &[u8]) -> Option<Vec<u8>> {
         let expected = sheet_of_text(text);
-        match &expected {
-            Ok(_) => self.accepted += 1,
-            Err(message) => *self.messages.entry(kind(message)).or_default() += 1,
-        }
         let (output, errors) = match expected.clone() {
-            Ok(sheet) => (sheet, Vec::new()),
+            Ok(sheet) => (sheet, notes_on_text(text).into_bytes()),
             Err(message) => (Vec::new(), format!("{message}\n").into_bytes()),
         };
+        match &expected {
+            Ok(_) => {
+                self.accepted += 1;
+                self.noted += usize::from(!errors.is_empty());
+            }
+            Err(message) => *self.messages.entry(kind(message)).or_default() += 1,
+        }
         let start = String::from_utf8_lossy(&text[..text.len().min(2_000)]);
         assert_eq!(SHEET.run(text), Printed { output, errors }, "{start}");
         expected.ok()
@@ -84,6 +89,45 @@ fn good_texts() {
         assert_eq!(kinds.run(shown.as_bytes()), Some(sheet));
     }
     assert_eq!(kinds.accepted, 1_000);
+    println!("{} of 1,000 with a note", kinds.noted);
+    assert!(kinds.noted >= 400);
+}
+
+/// Texts of jobs most of whose pieces draw something twice, with coordinates of one
+/// digit to seven in a note.
+#[test]
+fn notes() {
+    let mut kinds = Kinds::default();
+    let mut random = Random::new(205);
+    for _ in 0..500 {
+        let count = random.index(9);
+        let size = random.pick(&[3, 5, 9, 30, 300, 3_000, 16_000]);
+        let job = Job {
+            figures: small_figures(&mut random),
+            pieces: stroke_pieces(&mut random, count, size),
+        };
+        let text = text_of_job(&mut random, &job);
+        kinds.run(&text).expect("a good text");
+    }
+    println!("{} of 500 with a note", kinds.noted);
+    assert!(kinds.noted >= 350);
+}
+
+/// 200 pieces with a note each, in lines as far down as a text has, of coordinates
+/// as long as they can be.
+#[test]
+fn the_longest_notes() {
+    let strip = "strip 10 2 10\n";
+    let piece = "piece 1 15991,15991 15999,15991 15999,15999 15997,15993 15999,15999 15991,15999\n";
+    let empty = "\n".repeat(65_535 - 201);
+    let text = [strip, &empty, &piece.repeat(200)].concat();
+    let mut kinds = Kinds::default();
+    assert!(kinds.run(text.as_bytes()).is_some());
+    let notes = notes_on_text(text.as_bytes());
+    let last = "line 65535: drawn twice from 1999.625,1999.125 to 1999.875,1999.875 mm, \
+                where a knife may cut into another piece";
+    assert_eq!(notes.lines().count(), 200);
+    assert_eq!(notes.lines().last(), Some(last));
 }
 
 #[test]
@@ -105,7 +149,11 @@ fn any_texts() {
         kinds.run(&text_at_limit(&mut random));
     }
     let bad: usize = kinds.messages.values().sum();
-    assert!(kinds.accepted >= 800 && bad >= 800);
+    println!(
+        "{} accepted, {} with a note, {bad} not",
+        kinds.accepted, kinds.noted
+    );
+    assert!(kinds.accepted >= 800 && kinds.noted >= 300 && bad >= 800);
     for message in MESSAGES {
         let count = kinds.messages.get(message).copied().unwrap_or(0);
         assert!(count >= 3, "{message}: {count}");
@@ -140,14 +188,19 @@ fn any_bytes() {
 #[test]
 fn sheets() {
     let mut random = Random::new(204);
+    let mut noted = 0;
     for _ in 0..400 {
         let sheet = sound_sheet(&mut random);
         let text = SHOW.text(&sheet);
         assert_eq!(text, text_of_sheet(&sheet));
         let written = SHEET.run(text.as_bytes());
         assert_eq!(Ok(written.output), sheet_of_text(text.as_bytes()));
-        assert_eq!(written.errors, b"");
+        let notes = notes_on_text(text.as_bytes());
+        assert_eq!(String::from_utf8_lossy(&written.errors), notes);
+        noted += u32::from(!notes.is_empty());
     }
+    println!("{noted} of 400 with a note");
+    assert!(noted >= 150);
     for damage in SheetDamage::ALL {
         for _ in 0..3 {
             let damaged = damaged_sheet(&mut random, damage);

@@ -10,6 +10,7 @@ fn main() -> std::io::Result<ExitCode> {
     std::io::stdin().read_to_end(&mut input)?;
     match text::sheet_of_text(&input) {
         Ok(sheet) => {
+            eprint!("{}", text::notes_on_text(&input));
             let picture = picture::draw(&sheet);
             std::io::stdout().write_all(picture.as_bytes())?;
             Ok(ExitCode::SUCCESS)

@@ -8,11 +8,11 @@
 
 use reference::generate::{
     any_mask, any_turn, damaged_list, damaged_sheet, damaged_strip, job, outline, small_figures,
-    sound_list, sound_pieces, sound_sheet, sound_strip, Damage, Job, ListDamage, OutlineKind,
-    Random, SheetDamage,
+    sound_list, sound_pieces, sound_sheet, sound_strip, stroke_outline, Damage, Job, ListDamage,
+    OutlineKind, Random, SheetDamage, StrokeKind,
 };
 use reference::sheet::list_words;
-use reference::{cover, lay, lay_text, open, place, read, strip_runs, well_formed, write};
+use reference::{cover, lay, lay_text, open, place, read, retrace, strip_runs, well_formed, write};
 use reference::{Figures, Position, Refusal};
 use std::cmp::Ordering;
 
@@ -30,6 +30,7 @@ use Rattle.defs.specs.declared.Placing.the-variants.{Placed, Refused as NotPlac
 use Rattle.defs.specs.declared.Reading.the-variants.{Read, Refused as NotRead}
 use Rattle.defs.specs.declared.Writing.the-variants.{Written, Refused as NotWritten}
 use Rattle.defs.specs.declared.Laying.the-variants.{Laid, Refused as NotLaid}
+use Rattle.defs.specs.declared.Retracing.the-variants.{Nowhere, Twice, Refused as NotTraced}
 use Rattle.defs.specs.Computing.Cells.{Rows}
 use Rattle.defs.specs.Computing.Words.{wellFormedb, columnsRuns}
 use Rattle.defs.specs.Computing.Search.{position}
@@ -39,6 +40,7 @@ use Rattle.defs.specs.Computing.Lay.{layAnswer, layOutput}
 use Rattle.defs.specs.Computing.Ascii.{ascii}
 use Rattle.defs.specs.Computing.Text.{layText}
 use Rattle.defs.specs.Computing.Runs.{runs}
+use Rattle.strokes.specs.Retrace.{riseAlike, level, runAlong, standAlong, sharesb, sharedAfter, firstPair, retraceAnswer}
 
 infixl 90 _to_
 abbrev _to_ : ℕ → ℕ → Rows
@@ -46,6 +48,11 @@ _to_ l h = record { low = l; high = h }
 
 abbrev piece : List ℕ → ℕ → ℕ → Lent
 piece o mask words = record { outline = o; mask = mask; words = words }
+
+-- what the rows of the retrace call open
+retraces : Unit {0}
+unfolding runs retraceAnswer firstPair sharedAfter sharesb runAlong standAlong riseAlike level
+retraces = tt
 ";
 
 /// Rows as they are printed, numbered.
@@ -55,9 +62,14 @@ struct Table {
 
 impl Table {
     fn row(&mut self, computed: &str, given: &str) {
+        self.row_of("runs", computed, given);
+    }
+
+    /// A row that opens other definitions.
+    fn row_of(&mut self, opened: &str, computed: &str, given: &str) {
         self.rows += 1;
         let name = format!("row-{}", self.rows);
-        println!("\n{name} : {computed} ≡ {given}\nunfolding runs\n{name} = refl");
+        println!("\n{name} : {computed} ≡ {given}\nunfolding {opened}\n{name} = refl");
     }
 }
 
@@ -341,6 +353,35 @@ fn lay_row(random: &mut Random, table: &mut Table) {
     table.row(&format!("layText {sheet}"), &format!("ascii {text:?}"));
 }
 
+/// What an outline draws twice, of any size but few vertices.
+fn retrace_row(random: &mut Random, table: &mut Table) {
+    let words = loop {
+        let size = random.pick(&[4, 9, 16_000]);
+        let words = if random.once_in(3) {
+            let kind = random.pick(&OutlineKind::ALL);
+            outline(random, kind, size)
+        } else {
+            let kind = random.pick(&StrokeKind::ALL);
+            stroke_outline(random, kind, size)
+        };
+        if words.len() <= 20 {
+            break words;
+        }
+    };
+    let answer = match retrace(&words) {
+        Ok(None) => String::from("Nowhere"),
+        Ok(Some((first, second))) => {
+            format!("Twice (record {{ first = {first}; second = {second} }})")
+        }
+        Err(refusal) => refused("NotTraced", refusal),
+    };
+    table.row_of(
+        "retraces",
+        &format!("retraceAnswer {}", numbers(&words)),
+        &answer,
+    );
+}
+
 fn main() {
     let mut arguments = std::env::args()
         .skip(1)
@@ -361,6 +402,8 @@ fn main() {
         read_row(&mut random, &mut table);
         write_row(&mut random, &mut table);
         lay_row(&mut random, &mut table);
+        retrace_row(&mut random, &mut table);
+        retrace_row(&mut random, &mut table);
     }
     eprintln!("{} rows from seed {seed}", table.rows);
 }

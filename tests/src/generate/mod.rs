@@ -8,6 +8,7 @@ pub mod outlines;
 pub mod random;
 pub mod sheets;
 pub mod strips;
+pub mod strokes;
 pub mod texts;
 
 pub use jobs::{job, place_calls, sound_piece_of, sound_pieces, sound_pieces_of, Job, PlaceCall};
@@ -22,6 +23,7 @@ pub use strips::{
     change_words, damaged_strip, empty_strip, random_runs, sound_strip, strip_with, Damage,
     StripFigures,
 };
+pub use strokes::{stroke_outline, stroke_pieces, StrokeKind};
 pub use texts::{any_job, damaged_text, text_at_limit, text_of_job, TextDamage};
 
 use crate::figures::Figures;

@@ -150,7 +150,7 @@ pub fn is_sound(outline: &[u16], mask: u16) -> bool {
         && ask_8_to_11(outline, turns_of_mask(mask), 1).is_ok()
 }
 
-fn words(vertices: &[Vertex]) -> Vec<u16> {
+pub(super) fn words(vertices: &[Vertex]) -> Vec<u16> {
     vertices
         .iter()
         .flat_map(|&(x, y)| [x, y])
@@ -158,7 +158,7 @@ fn words(vertices: &[Vertex]) -> Vec<u16> {
         .collect()
 }
 
-fn random_vertex(random: &mut Random, size: i64) -> Vertex {
+pub(super) fn random_vertex(random: &mut Random, size: i64) -> Vertex {
     (random.between(0, size), random.between(0, size))
 }
 
@@ -204,7 +204,7 @@ fn compare_directions(a: Vertex, b: Vertex) -> Ordering {
 }
 
 /// A star or a rectangle.
-fn simple(random: &mut Random, count: usize, size: i64) -> Vec<Vertex> {
+pub(super) fn simple(random: &mut Random, count: usize, size: i64) -> Vec<Vertex> {
     if random.once_in(2) {
         rectangle(random, size)
     } else {
@@ -233,7 +233,7 @@ fn lattice_walk(random: &mut Random, steps: usize, size: i64) -> Vec<Vertex> {
     walk
 }
 
-fn repeated_vertices(random: &mut Random, count: usize, size: i64) -> Vec<Vertex> {
+pub(super) fn repeated_vertices(random: &mut Random, count: usize, size: i64) -> Vec<Vertex> {
     let mut vertices = Vec::new();
     for vertex in simple(random, count, size) {
         for _ in 0..random.between(1, 3) {

@@ -4,7 +4,8 @@
 use mathlib.Core.Path.{refl}
 use borrow.Author.Needs.{needs}
 use Rattle.checks.proofs.Turned.{lent-of}
-use Rattle.asked.proofs.InOrder.{said-no, said-yes, no-7, no-8, no-9, no-10, none-to-10}
+use Rattle.laws.proofs.Tests.{said-no, said-yes}
+use Rattle.asked.proofs.InOrder.{no-7, no-8, no-9, no-10, none-to-10}
 use Rattle.asked.proofs.order_no.Statement.{statement}
 use Rattle.asked.proofs.order_no.Tie as tie
 

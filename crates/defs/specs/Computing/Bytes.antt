@@ -1,8 +1,14 @@
 -- "There a buffer may be passed as bytes, two to a word, low byte first; an odd last byte is no part of it and stays."
 -- Assumes nothing.
+use mathlib.Core.Path.{_≡_}
 use mathlib.Core.List.{List, [], _∷_, _++_}
 use Prim.Native.Nat.{ℕ, _+_, _*_}
+use Rattle.defs.specs.declared.Opening.{Opening}
+use Rattle.defs.specs.declared.Placing.{Placing}
+use Rattle.defs.specs.declared.Laying.{Laying}
+use Rattle.defs.specs.Computing.Calls.{OpenStep, PlaceStep}
 use Rattle.defs.specs.Computing.Sheets.{bytesOf}
+use Rattle.defs.specs.Computing.Lay.{LayStep}
 
 -- the words of a buffer passed as bytes
 unfoldable pub wordsIn : List ℕ → List ℕ
@@ -24,3 +30,27 @@ oddByte (a ∷ (b ∷ bs)) = oddByte bs
 -- what the buffer is left as when its words have become ws
 unfoldable pub bytesLeft : List ℕ → List ℕ → List ℕ
 bytesLeft bs ws = wordBytes ws ++ oddByte bs
+
+-- The contracts of the calls on buffers passed as bytes: the same steps on the words of the buffers, and each buffer left with its
+-- words. A sheet is bytes in any case.
+
+pub record OpenBytesStep (W R N : ℕ) (strip : List ℕ) (a : Opening) (strip' : List ℕ) : Type 0 where
+  pub words : List ℕ
+  pub step : OpenStep W R N (wordsIn strip) a words
+  pub strip-left : strip' ≡ bytesLeft strip words
+
+pub record PlaceBytesStep (strip o : List ℕ) (mask : ℕ) (work : List ℕ) (a : Placing) (strip' work' : List ℕ) : Type 0 where
+  pub words : List ℕ
+  pub work-words : List ℕ
+  pub step : PlaceStep (wordsIn strip) (wordsIn o) mask (wordsIn work) a words work-words
+  pub strip-left : strip' ≡ bytesLeft strip words
+  pub work-left : work' ≡ bytesLeft work work-words
+
+pub record LayBytesStep (sheet strip out work : List ℕ) (a : Laying) (strip' out' work' : List ℕ) : Type 0 where
+  pub words : List ℕ
+  pub out-words : List ℕ
+  pub work-words : List ℕ
+  pub step : LayStep sheet (wordsIn strip) (wordsIn out) (wordsIn work) a words out-words work-words
+  pub strip-left : strip' ≡ bytesLeft strip words
+  pub out-left : out' ≡ bytesLeft out out-words
+  pub work-left : work' ≡ bytesLeft work work-words

@@ -1,11 +1,11 @@
 -- What read and write answer, and what they leave in each lent buffer. Assumes nothing.
 use mathlib.Core.Path.{_≡_}
-use mathlib.Core.Bool.{Bool, true, cond, not, _&&_}
+use mathlib.Core.Bool.{Bool, true, cond, _&&_}
 use mathlib.Core.List.{List, [], _∷_, _++_, map}
 use mathlib.Core.Option.{Option, none, some}
-use Prim.Native.Nat.{ℕ, zero, suc, _+_, _*_, _-_, _/_, _%_, min}
+use Prim.Native.Nat.{ℕ, zero, suc, _+_, _*_, _/_, _%_, min}
 use lib.Dec.{leb, eqb}
-use lib.ListN.{length, getD, take, drop}
+use lib.ListN.{length, getD, drop}
 use Rattle.defs.specs.declared.Refusal.{Refusal}
 use Rattle.defs.specs.declared.Figures.{Figures}
 use Rattle.defs.specs.declared.Reading.{Reading}
@@ -13,8 +13,8 @@ use Rattle.defs.specs.declared.Reading.the-variants.{Read, Refused as No
 use Rattle.defs.specs.declared.Writing.{Writing}
 use Rattle.defs.specs.declared.Writing.the-variants.{Written, Refused as NotWritten}
 use Rattle.defs.specs.Meaning.Limits.{leastVertices, mostVertices, mostPieces, mostBytes}
-use Rattle.defs.specs.Meaning.Sheet.{Piece, mark, sheetW, sheetR, sheetN, sheetV, sheetP, firstPiece, vertexNumber, pieceNumber, vertexWords, listWords}
-use Rattle.defs.specs.Computing.Test.{ask, all, chainBy, endsBy}
+use Rattle.defs.specs.Meaning.Sheet.{Piece, mark, sheetW, sheetR, sheetN, sheetV, sheetP, firstPiece, vertexNumber, pieceNumber, vertexWords, listWords, listPiece, afterPiece}
+use Rattle.defs.specs.Computing.Test.{ask, chainBy, endsBy}
 use Rattle.defs.specs.Computing.Words.{limitsNo}
 use Rattle.defs.specs.Computing.Calls.{refusal, q9b, outlineNo}
 
@@ -132,10 +132,7 @@ sheetBytes W R N ps =
 -- what is left of a list's words from each piece on, for `n` pieces
 unfoldable pub listTails : ℕ → List ℕ → List (List ℕ)
 listTails zero ws = []
-listTails (suc n) ws = ws ∷ listTails n (drop (2 + 2 * getD ws 0 0) ws)
-
-abbrev pub listPiece : List ℕ → Piece
-listPiece ws = record { mask = getD ws 1 0; outline = take (2 * getD ws 0 0) (drop 2 ws) }
+listTails (suc n) ws = ws ∷ listTails n (afterPiece ws)
 
 -- "is the list's vertex count 3 to 64 and the piece's words complete"
 unfoldable pub q7Listb : List ℕ → Bool

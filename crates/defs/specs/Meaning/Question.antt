@@ -1,4 +1,5 @@
--- "The questions" of document 01, each as a statement. 1, 2 and a sheet's 6 and 7 stand in Sheet. Assumes nothing.
+-- "The questions" of document 01, each as a statement. 1 and 2 of a sheet stand in Sheet, with the chains that its 6 and 7 ask for.
+-- Assumes nothing.
 use mathlib.Core.Path.{_≡_}
 use mathlib.Core.Logic.{_⊎_}
 use mathlib.Core.List.{List}

@@ -3,7 +3,7 @@
 use mathlib.Core.Path.{_≡_}
 use mathlib.Core.List.{List, [], _∷_, _++_}
 use Prim.Native.Nat.{ℕ, _+_, _*_, _/_, _≤_, _<_}
-use lib.ListN.{length, getD, take}
+use lib.ListN.{length, getD, take, drop}
 use Rattle.defs.specs.Meaning.Limits.{Between, leastVertices, mostVertices, mostPieces, mostBytes}
 use Rattle.defs.specs.Meaning.Strip.{Limits}
 
@@ -104,6 +104,13 @@ piecesWords (p ∷ ps) = pieceWords p ++ piecesWords ps
 
 abbrev pub listWords : List Piece → List ℕ
 listWords ps = length ps ∷ piecesWords ps
+
+-- The piece with which some words of a list begin, by its vertex count, and the words after it.
+abbrev pub listPiece : List ℕ → Piece
+listPiece ws = record { mask = getD ws 1 0; outline = take (2 * getD ws 0 0) (drop 2 ws) }
+
+abbrev pub afterPiece : List ℕ → List ℕ
+afterPiece ws = drop (2 + 2 * getD ws 0 0) ws
 
 -- "Words after a list's last piece are not looked at."
 pub record ListHolds (ws : List ℕ) (ps : List Piece) : Type 0 where

@@ -1,5 +1,6 @@
 -- Each case of the answer is packed by its own numbers. Assumes nothing.
 use borrow.Author.Needs.{needs}
+use Rattle.packing.proofs.Bits.{no-value, refused}
 use Rattle.packing.proofs.pack_opening.Statement.{statement}
 use Rattle.packing.proofs.pack_opening.Tie as tie
 
@@ -13,10 +14,10 @@ pack-refusal-requires : tie.Need-pack-refusal-requires
 pack-refusal-requires c κs = search needs
 
 returns : tie.Need-returns
-returns c = search needs
+returns c = rw (c .enum-told .given .1) no-value
 
 returns-2 : tie.Need-returns-2
-returns-2 c = rw (c .before .before .a .given .1) (c .pack-refusal .ensures)
+returns-2 c = rw (c .before .before .a .given .1) (refused (c .pack-refusal .ensures))
 
 pub pack-opening-spec : {M : Type 1} → statement M
 pack-opening-spec =

@@ -1,5 +1,6 @@
 -- Each case of the answer is packed by its own numbers. Assumes nothing.
 use borrow.Author.Needs.{needs}
+use Rattle.packing.proofs.Bits.{one-value, refused-wide}
 use Rattle.packing.proofs.pack_writing.Statement.{statement}
 use Rattle.packing.proofs.pack_writing.Tie as tie
 
@@ -19,10 +20,10 @@ pack-refusal-requires : tie.Need-pack-refusal-requires
 pack-refusal-requires c κs = search needs
 
 returns : tie.Need-returns
-returns c = rw (c .before .a .given .1)
+returns c = rw (c .before .a .given .1) (one-value _ (search needs))
 
 returns-2 : tie.Need-returns-2
-returns-2 c = rw (c .before .before .a2 .given .1) (c .pack-refusal .ensures)
+returns-2 c = rw (c .before .before .a2 .given .1) (refused-wide (c .pack-refusal .ensures))
 
 pub pack-writing-spec : {M : Type 1} → statement M
 pack-writing-spec =

@@ -5,7 +5,8 @@ use native.Mathlib.Omega.{arith}
 use lib.ListN.{drop}
 use lib.Seq.{sets}
 use borrow.Author.Needs.{needs}
-use Rattle.defs.specs.Computing.Sheets.{piecesBytes, listPiece, listTails}
+use Rattle.defs.specs.Meaning.Sheet.{listPiece}
+use Rattle.defs.specs.Computing.Sheets.{piecesBytes, listTails}
 use Rattle.recordbytes.proofs.Tails.{Recording, pieces-start, pieces-whole, pieces-sum, pieces-next, pieces-end}
 use Rattle.recordbytes.proofs.put_pieces.Statement.{statement}
 use Rattle.recordbytes.proofs.put_pieces.Tie as tie

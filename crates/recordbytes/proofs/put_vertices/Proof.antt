@@ -5,7 +5,8 @@ use native.Mathlib.Omega.{arith}
 use lib.ListN.{drop}
 use lib.Seq.{sets}
 use borrow.Author.Needs.{needs}
-use Rattle.defs.specs.Computing.Sheets.{verticesBytes, listPiece, listTails}
+use Rattle.defs.specs.Meaning.Sheet.{listPiece}
+use Rattle.defs.specs.Computing.Sheets.{verticesBytes, listTails}
 use Rattle.recordbytes.proofs.Tails.{Vertexing, vertices-start, vertices-whole, vertices-fit, vertices-next, vertices-end}
 use Rattle.recordbytes.proofs.put_vertices.Statement.{statement}
 use Rattle.recordbytes.proofs.put_vertices.Tie as tie

@@ -1,6 +1,6 @@
 -- An outline that passes 7 and 8 can be read through a turn. Assumes nothing.
 use Rattle.checks.proofs.Turned.{lent-of}
-use Rattle.asked.proofs.InOrder.{said-yes}
+use Rattle.laws.proofs.Tests.{said-yes}
 use borrow.Author.Needs.{needs}
 use Rattle.shapes.proofs.put_piece.Statement.{statement}
 use Rattle.shapes.proofs.put_piece.Tie as tie

@@ -8,16 +8,16 @@ use Rattle.shapes.proofs.put_points.Statement.{statement}
 use Rattle.shapes.proofs.put_points.Tie as tie
 
 abbrev Inv-loop : tie.InvT-loop
-Inv-loop out₀ at o b p font n i₀ to₀ out i to = (length out ≡ length out₀) × (i ≤ n) × (n ≡ sides o)
+Inv-loop out₀ at o b r p font n i₀ to₀ out i to = (length out ≡ length out₀) × (i ≤ n) × (n ≡ sides o)
 
 abbrev μ-loop : tie.MeasureT-loop
-μ-loop out₀ at o b p font n i₀ to₀ out i to = n - i
+μ-loop out₀ at o b r p font n i₀ to₀ out i to = n - i
 
 loop-holds : tie.Need-loop-holds Inv-loop μ-loop
 loop-holds c = search needs
 
-vertex-at-requires : tie.Need-vertex-at-requires Inv-loop μ-loop
-vertex-at-requires c κs = search needs
+point-at-requires : tie.Need-point-at-requires Inv-loop μ-loop
+point-at-requires c κs = search needs
 
 put-point-requires : tie.Need-put-point-requires Inv-loop μ-loop
 put-point-requires c κs = search needs
@@ -44,7 +44,7 @@ put-points-spec =
     Inv-loop
     μ-loop
     loop-holds
-    vertex-at-requires
+    point-at-requires
     put-point-requires
     add-i
     loop-less

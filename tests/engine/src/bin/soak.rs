@@ -1,6 +1,7 @@
 //! So many calls of open, place and lay over C, one after another, on good and bad
 //! input, against the reference program: each answer and each word of every buffer,
 //! which stands between two pages that cannot be read, now at one, now at the other.
+//! One call in three is made on bytes, which stand at odd addresses too.
 //!
 //! soak [CALLS [SEED]]
 
@@ -9,7 +10,7 @@ use reference::generate::{
     any_figures, change_words, damaged_sheet, damaged_strip, job, place_calls, small_figures,
     sound_sheet, sound_strip, Damage, PlaceCall, Random, SheetDamage,
 };
-use reference::{Figures, Refusal};
+use reference::{bytes, Figures, Refusal};
 
 /// What the calls of one kind answered.
 struct Kind {
@@ -42,9 +43,16 @@ struct Soak {
     strip: Room,
     output: Room,
     work: Room,
+    outline_bytes: Room<u8>,
+    strip_bytes: Room<u8>,
+    output_bytes: Room<u8>,
+    work_bytes: Room<u8>,
     open: Kind,
     place: Kind,
     lay: Kind,
+    open_bytes: Kind,
+    place_bytes: Kind,
+    lay_bytes: Kind,
     /// Pieces of laid jobs, by fate; 0 is placed.
     fates: [u64; 16],
 }
@@ -52,6 +60,28 @@ struct Soak {
 fn any_words(random: &mut Random, count: usize) -> Vec<u16> {
     let other = random.word(0, 65_535);
     (0..count).map(|place| other ^ place as u16).collect()
+}
+
+/// The bytes of some words, and sometimes an odd last one, which is no part of them.
+fn as_bytes(random: &mut Random, words: &[u16]) -> Vec<u8> {
+    let mut bytes: Vec<u8> = words.iter().flat_map(|word| word.to_le_bytes()).collect();
+    if random.once_in(2) {
+        bytes.push(random.word(0, 255) as u8);
+    }
+    bytes
+}
+
+/// The words of a buffer put back.
+fn put_words(words: &mut [u16], bytes: &[u8]) {
+    for (word, two) in words.iter_mut().zip(bytes.chunks_exact(2)) {
+        *word = u16::from_le_bytes([two[0], two[1]]);
+    }
+}
+
+/// All bytes are zero but an odd last one.
+fn is_cleared(now: &[u8], before: &[u8]) -> bool {
+    let words = before.len() / 2 * 2;
+    now[..words].iter().all(|&byte| byte == 0) && now[words..] == before[words..]
 }
 
 /// The pieces of a sheet, some where it is refused.
@@ -69,9 +99,16 @@ impl Soak {
             strip: Room::new(69_000),
             output: Room::new(1_000),
             work: Room::new(10_000),
+            outline_bytes: Room::new(601),
+            strip_bytes: Room::new(138_001),
+            output_bytes: Room::new(2_001),
+            work_bytes: Room::new(20_001),
             open: Kind::new("open"),
             place: Kind::new("place"),
             lay: Kind::new("lay"),
+            open_bytes: Kind::new("open as bytes"),
+            place_bytes: Kind::new("place as bytes"),
+            lay_bytes: Kind::new("lay as bytes"),
             fates: [0; 16],
         }
     }
@@ -80,8 +117,16 @@ impl Soak {
         self.random.pick(&[End::Before, End::After])
     }
 
+    /// For bytes: at a page or one byte from it.
+    fn any_end(&mut self) -> End {
+        self.random.pick(&End::ALL)
+    }
+
     /// Opens a strip of these words, which stay where it is refused.
     fn open(&mut self, figures: Figures, strip: &mut [u16]) -> bool {
+        if self.random.once_in(3) {
+            return self.open_as_bytes(figures, strip);
+        }
         let Figures {
             width: w,
             resolution: r,
@@ -97,9 +142,30 @@ impl Soak {
         answer.is_ok()
     }
 
+    fn open_as_bytes(&mut self, figures: Figures, words: &mut [u16]) -> bool {
+        let Figures {
+            width: w,
+            resolution: r,
+            columns: n,
+        } = figures;
+        let mut strip = as_bytes(&mut self.random, words);
+        let end = self.any_end();
+        let lent = self.strip_bytes.lend_at(end, &strip);
+        let answer = bytes::open_bytes(w, r, n, &mut strip);
+        assert_eq!(engine::open_bytes(w, r, n, lent), answer, "{figures:?}");
+        assert!(*lent == *strip, "strip: {figures:?}");
+        assert!(self.strip_bytes.kept_at(end, strip.len()), "{figures:?}");
+        put_words(words, &strip);
+        self.open_bytes.count(&answer);
+        answer.is_ok()
+    }
+
     /// One call on this strip, which is left as the reference program leaves it.
     fn place(&mut self, strip: &mut [u16], call: &PlaceCall) {
         let mut work = any_words(&mut self.random, call.work);
+        if self.random.once_in(3) {
+            return self.place_as_bytes(strip, call, &work);
+        }
         let end = self.end();
         let lent_strip = self.strip.lend_at(end, strip);
         let lent_outline = self.outline.lend_at(end, &call.outline);
@@ -117,12 +183,38 @@ impl Soak {
         self.place.count(&answer);
     }
 
+    fn place_as_bytes(&mut self, words: &mut [u16], call: &PlaceCall, work: &[u16]) {
+        let mut strip = as_bytes(&mut self.random, words);
+        let outline = as_bytes(&mut self.random, &call.outline);
+        let mut work = as_bytes(&mut self.random, work);
+        let [end, outline_end, work_end] = [(); 3].map(|()| self.any_end());
+        let lent_strip = self.strip_bytes.lend_at(end, &strip);
+        let lent_outline = self.outline_bytes.lend_at(outline_end, &outline);
+        let lent_work = self.work_bytes.lend_at(work_end, &work);
+        let ours = engine::place_bytes(lent_strip, lent_outline, call.mask, lent_work);
+        assert!(is_cleared(lent_work, &work), "work: {call:?}");
+        let answer = bytes::place_bytes(&mut strip, &outline, call.mask, &mut work);
+        assert_eq!(ours, answer, "{call:?}");
+        assert!(*lent_strip == *strip, "strip: {call:?}");
+        assert!(*lent_outline == *outline, "outline: {call:?}");
+        assert!(*lent_work == *work, "work: {call:?}");
+        let kept = self.strip_bytes.kept_at(end, strip.len())
+            && self.outline_bytes.kept_at(outline_end, outline.len())
+            && self.work_bytes.kept_at(work_end, work.len());
+        assert!(kept, "beside a buffer: {call:?}");
+        put_words(words, &strip);
+        self.place_bytes.count(&answer);
+    }
+
     /// One call with a strip and an output of so many words.
     fn lay(&mut self, sheet: &[u8], strip: usize, output: usize) {
         let mut strip = any_words(&mut self.random, strip);
         let mut output = any_words(&mut self.random, output);
         let work = self.random.pick(&[0, 5, 60, 9_000]);
         let mut work = any_words(&mut self.random, work);
+        if self.random.once_in(3) {
+            return self.lay_as_bytes(sheet, [&strip, &output, &work]);
+        }
         let end = self.end();
         let lent_sheet = self.sheet.lend_at(end, sheet);
         let lent_strip = self.strip.lend_at(end, &strip);
@@ -142,9 +234,42 @@ impl Soak {
         assert!(kept, "beside a buffer: {sheet:?}");
         self.lay.count(&answer);
         if answer.is_ok() {
-            for entry in output.chunks_exact(4).take(pieces_of(sheet)) {
-                self.fates[usize::from(entry[0])] += 1;
-            }
+            self.count_fates(sheet, &output);
+        }
+    }
+
+    fn lay_as_bytes(&mut self, sheet: &[u8], words: [&[u16]; 3]) {
+        let [mut strip, mut output, mut work] =
+            words.map(|words| as_bytes(&mut self.random, words));
+        let [sheet_end, end, output_end, work_end] = [(); 4].map(|()| self.any_end());
+        let lent_sheet = self.sheet.lend_at(sheet_end, sheet);
+        let lent_strip = self.strip_bytes.lend_at(end, &strip);
+        let lent_output = self.output_bytes.lend_at(output_end, &output);
+        let lent_work = self.work_bytes.lend_at(work_end, &work);
+        let ours = engine::lay_bytes(lent_sheet, lent_strip, lent_output, lent_work);
+        assert!(is_cleared(lent_work, &work), "work: {sheet:?}");
+        let answer = bytes::lay_bytes(sheet, &mut strip, &mut output, &mut work);
+        assert_eq!(ours, answer, "{sheet:?}");
+        assert!(*lent_sheet == *sheet, "sheet: {sheet:?}");
+        assert!(*lent_strip == *strip, "strip: {sheet:?}");
+        assert!(*lent_output == *output, "output: {sheet:?}");
+        assert!(*lent_work == *work, "work: {sheet:?}");
+        let kept = self.sheet.kept_at(sheet_end, sheet.len())
+            && self.strip_bytes.kept_at(end, strip.len())
+            && self.output_bytes.kept_at(output_end, output.len())
+            && self.work_bytes.kept_at(work_end, work.len());
+        assert!(kept, "beside a buffer: {sheet:?}");
+        self.lay_bytes.count(&answer);
+        if answer.is_ok() {
+            let mut entries = vec![0; output.len() / 2];
+            put_words(&mut entries, &output);
+            self.count_fates(sheet, &entries);
+        }
+    }
+
+    fn count_fates(&mut self, sheet: &[u8], output: &[u16]) {
+        for entry in output.chunks_exact(4).take(pieces_of(sheet)) {
+            self.fates[usize::from(entry[0])] += 1;
         }
     }
 
@@ -213,8 +338,16 @@ impl Soak {
         self.lay(&sheet, strip, output);
     }
 
+    /// Calls on words, and the same calls on bytes.
+    fn kinds(&self) -> [[&Kind; 3]; 2] {
+        [
+            [&self.open, &self.place, &self.lay],
+            [&self.open_bytes, &self.place_bytes, &self.lay_bytes],
+        ]
+    }
+
     fn calls(&self) -> u64 {
-        self.open.calls + self.place.calls + self.lay.calls
+        self.kinds().iter().flatten().map(|kind| kind.calls).sum()
     }
 }
 
@@ -236,33 +369,35 @@ fn main() {
         }
     }
     println!("{} calls, seed {seed}, no difference", soak.calls());
-    for kind in [&soak.open, &soak.place, &soak.lay] {
+    for kind in soak.kinds().into_iter().flatten() {
         let came: Vec<String> = (0..18)
             .filter(|&number| kind.numbers[number] > 0)
             .map(|number| format!("{number}: {}", kind.numbers[number]))
             .collect();
-        println!("{:5} {:8}  {}", kind.name, kind.calls, came.join(", "));
+        println!("{:14} {:8}  {}", kind.name, kind.calls, came.join(", "));
     }
     println!(
         "fates placed {}, 12: {}, 13: {}, 14: {}",
         soak.fates[0], soak.fates[12], soak.fates[13], soak.fates[14]
     );
-    // A soak that never meets a kind of call proves nothing about it.
-    let least = calls / 100;
-    let all = [
-        soak.open.calls,
-        soak.place.numbers[0],
-        soak.place.numbers[5],
-        soak.lay.numbers[0],
-        soak.lay.calls - soak.lay.numbers[0],
-    ];
-    assert!(all.iter().all(|&times| times > least), "too few of a kind");
-    // Nor one that never meets W, R or N out of limits.
-    let rarest = calls / 1_000;
-    for kind in [&soak.open, &soak.lay] {
-        for number in [3, 16, 17] {
-            let times = kind.numbers[number];
-            assert!(times >= rarest, "{} has {number} {times} times", kind.name);
+    for ([open, place, lay], share) in soak.kinds().into_iter().zip([1, 3]) {
+        // A soak that never meets a kind of call proves nothing about it.
+        let least = calls / (100 * share);
+        let all = [
+            open.calls,
+            place.numbers[0],
+            place.numbers[5],
+            lay.numbers[0],
+            lay.calls - lay.numbers[0],
+        ];
+        assert!(all.iter().all(|&times| times > least), "too few of a kind");
+        // Nor one that never meets W, R or N out of limits.
+        let rarest = calls / (1_000 * share);
+        for kind in [open, lay] {
+            for number in [3, 16, 17] {
+                let times = kind.numbers[number];
+                assert!(times >= rarest, "{} has {number} {times} times", kind.name);
+            }
         }
     }
 }

@@ -1,0 +1,227 @@
+-- Demand 1: "bad input gets its number from document 01". The questions of each call as document 01 lists them, in their order, each
+-- with its number and with the ordinal that a "no" gives; the first "no" is the answer, and where there is none the call is granted with
+-- the values said last. Assumes nothing.
+use mathlib.Core.Path.{_≡_}
+use mathlib.Core.Logic.{_⊎_, _↔_}
+use mathlib.Core.List.{List, [], _∷_}
+use Prim.Native.Nat.{ℕ, zero, suc, _+_, _*_, _^_, _≤_, _<_}
+use lib.ListN.{length, getD, drop}
+use Rattle.defs.specs.declared.Position.{Position}
+use Rattle.defs.specs.declared.Opening.{Opening}
+use Rattle.defs.specs.declared.Covering.{Covering}
+use Rattle.defs.specs.declared.Placing.{Placing}
+use Rattle.defs.specs.declared.Placing.the-variants.{Placed}
+use Rattle.defs.specs.declared.Reading.{Reading}
+use Rattle.defs.specs.declared.Writing.{Writing}
+use Rattle.defs.specs.declared.Laying.{Laying}
+use Rattle.defs.specs.declared.Laying.the-variants.{Laid}
+use Rattle.defs.specs.declared.Totals.{Totals}
+use Rattle.defs.specs.Answer.{Outcome, opening, covering, placing, reading, writing, laying}
+use Rattle.defs.specs.Meaning.Cell.{Cells, AtMostRuns}
+use Rattle.defs.specs.Meaning.Strip.{Length, Holds, widthOf, resolutionOf, columnsOf}
+use Rattle.defs.specs.Meaning.Placing.{Best, OccupiedBefore, cellsIn, cellsAt}
+use Rattle.defs.specs.Meaning.Sheet.{Piece, Pieces, Question1, Question2, sheetW, sheetR, sheetN, pieceNumber, vertexWords, listWords, listPiece, afterPiece}
+use Rattle.defs.specs.Meaning.Job.{Used, CountPlaced}
+use Rattle.defs.specs.Meaning.Question.{Question2Size, Question3, Question16, Question17, Question4, Question5, Question6, Question6List, Question7, Question7Sheet, Question7List, Question8, Question9, Question9Turn, Question10, Question11, Question12, Question13, Question14, Question15}
+use Rattle.defs.specs.Computing.Calls.{OpenStep, CoverStep, PlaceStep}
+use Rattle.defs.specs.Computing.Sheets.{ReadStep, WriteStep}
+use Rattle.defs.specs.Computing.Lay.{LayStep, fateOf}
+use Rattle.claims.specs.Trace.{Calls, Trace, Occupied}
+use Rattle.claims.specs.Laying.{LaysList, pieceAt}
+
+-- Questions in their order: the number and the ordinal that a "no" gives, the question, and the questions after a "yes", which may
+-- speak of what the "yes" has found (a chain, a number of records). After the last one the call is granted, with values of which this
+-- holds.
+pub data Questions : Type 1 where
+  asks : ℕ → ℕ → (P : Type 0) → (P → Questions) → Questions
+  grants : (List ℕ → Type 0) → Questions
+
+-- What is answered to them: the first "no", or the values.
+unfoldable pub Answers : Questions → Outcome → Type 0
+Answers (asks number ordinal P next) a =
+    ((¬ P) × (a .number ≡ number) × (a .ordinal ≡ ordinal) × (a .values ≡ [])) ⊎ (P × ((p : P) → Answers (next p) a))
+Answers (grants given) a = (a .number ≡ 0) × (a .ordinal ≡ 0) × given (a .values)
+
+-- The questions leave no choice of number and ordinal.
+unfoldable pub One-answer : Type 1
+One-answer = (qs : Questions) (a b : Outcome) → Answers qs a → Answers qs b → (a .number ≡ b .number) × (a .ordinal ≡ b .ordinal)
+
+-- "open 3, 4", with 16 and 17 of S-1
+abbrev pub openQuestions : ℕ → ℕ → ℕ → ℕ → Questions
+openQuestions W R N words =
+    asks 3 0 (Question3 W) λ _.
+    asks 16 0 (Question16 R) λ _.
+    asks 17 0 (Question17 N) λ _.
+    asks 4 0 (Question4 N words) λ _.
+    grants λ values. values ≡ []
+
+-- "answers the number of runs": at most so many and no fewer
+abbrev pub RunsAre : Cells → ℕ → Type 0
+RunsAre C n = (m : ℕ) → AtMostRuns C m ↔ (n ≤ m)
+
+-- "cover 3, 7 to 12", its 3 being 16 by S-1
+abbrev pub coverQuestions : List ℕ → ℕ → ℕ → ℕ → Questions
+coverQuestions o t R words =
+    asks 16 0 (Question16 R) λ _.
+    asks 7 1 (Question7 o) λ _.
+    asks 8 1 (Question8 o) λ _.
+    asks 9 1 (Question9Turn t) λ _.
+    asks 10 1 (Question10 o (2 ^ t)) λ _.
+    asks 11 1 (Question11 o (2 ^ t) R) λ _.
+    asks 12 1 (Question12 o (2 ^ t) R words) λ _.
+    grants λ values. (n : ℕ) × (values ≡ n ∷ []) × RunsAre (cellsIn R o t) n
+
+-- 12 to 14 of an outline on a strip where the cells C are occupied; the best position is answered
+abbrev pub fateQuestions : ℕ → ℕ → ℕ → ℕ → Cells → List ℕ → ℕ → ℕ → Questions
+fateQuestions W R N Q C o mask words =
+    asks 12 1 (Question12 o mask R words) λ _.
+    asks 13 1 (Question13 W R N C o mask) λ _.
+    asks 14 1 ((p : Position) → Best W R N C o mask p → Question14 R Q C o p) λ _.
+    grants λ values. (p : Position) × (values ≡ p .turn ∷ p .column ∷ p .height ∷ []) × Best W R N C o mask p
+
+-- "place 5, 7 to 14": of an outline on strip s, where the cells C are occupied
+unfoldable pub placeQuestions : List ℕ → Cells → List ℕ → ℕ → ℕ → Questions
+unfolding Question5
+placeQuestions s C o mask words =
+    asks 5 0 (Question5 s) λ q5.
+    asks 7 1 (Question7 o) λ _.
+    asks 8 1 (Question8 o) λ _.
+    asks 9 1 (Question9 mask) λ _.
+    asks 10 1 (Question10 o mask) λ _.
+    asks 11 1 (Question11 o mask (resolutionOf s)) λ _.
+    fateQuestions (widthOf s) (resolutionOf s) (columnsOf s) (q5 .0) C o mask words
+
+-- "7 to 11 piece by piece", each with "the piece's place in chain": of the piece records rs of a sheet, from place k on
+unfoldable pub chainQuestions : List ℕ → ℕ → List ℕ → Questions → Questions
+unfolding Question7Sheet
+chainQuestions b k [] next = next
+chainQuestions b k (r ∷ rs) next =
+    asks 7 k (Question7Sheet b r) λ q7.
+    asks 8 k (Question8 (vertexWords b (q7 .0))) λ _.
+    asks 9 k (Question9 (pieceNumber b r 1)) λ _.
+    asks 10 k (Question10 (vertexWords b (q7 .0)) (pieceNumber b r 1)) λ _.
+    asks 11 k (Question11 (vertexWords b (q7 .0)) (pieceNumber b r 1) (sheetR b)) λ _.
+    chainQuestions b (k + 1) rs next
+
+-- "or list": of the n pieces with whose words ws begin, from place k on. The questions after them are told the vertices of all
+-- pieces, v of them before these.
+unfoldable pub listQuestions : ℕ → ℕ → ℕ → List ℕ → ℕ → (ℕ → Questions) → Questions
+listQuestions R k zero ws v next = next v
+listQuestions R k (suc n) ws v next =
+    asks 7 k (Question7List ws) λ _.
+    asks 8 k (Question8 (listPiece ws .outline)) λ _.
+    asks 9 k (Question9 (listPiece ws .mask)) λ _.
+    asks 10 k (Question10 (listPiece ws .outline) (listPiece ws .mask)) λ _.
+    asks 11 k (Question11 (listPiece ws .outline) (listPiece ws .mask) R) λ _.
+    listQuestions R (k + 1) n (afterPiece ws) (v + getD ws 0 0) next
+
+-- "read asks 1, 2, 3, 6 to 11, 15"; the answer is the sheet's W, R, N
+unfoldable pub readQuestions : List ℕ → ℕ → Questions
+unfolding Question6
+readQuestions b words =
+    asks 1 0 (Question1 b) λ _.
+    asks 2 0 (Question2 b) λ _.
+    asks 3 0 (Question3 (sheetW b)) λ _.
+    asks 16 0 (Question16 (sheetR b)) λ _.
+    asks 17 0 (Question17 (sheetN b)) λ _.
+    asks 6 0 (Question6 b) λ q6.
+    chainQuestions b 1 (q6 .0)
+    (asks 15 0 ((ps : List Piece) → Pieces b (q6 .0) ps → Question15 (length (listWords ps)) words) λ _.
+    grants λ values. values ≡ sheetW b ∷ sheetR b ∷ sheetN b ∷ [])
+
+-- "write 3, 6 to 11, then 2 (size), 15"; the answer is the size of the sheet, with v vertex records and a piece record for each piece of
+-- the list
+abbrev pub writeQuestions : ℕ → ℕ → ℕ → List ℕ → ℕ → Questions
+writeQuestions W R N ws bytes =
+    asks 3 0 (Question3 W) λ _.
+    asks 16 0 (Question16 R) λ _.
+    asks 17 0 (Question17 N) λ _.
+    asks 6 0 (Question6List ws) λ _.
+    listQuestions R 1 (getD ws 0 0) (drop 1 ws) 0 λ v.
+    asks 2 0 (Question2Size (16 + 6 * v + 6 * getD ws 0 0)) λ _.
+    asks 15 0 (Question15 (16 + 6 * v + 6 * getD ws 0 0) bytes) λ _.
+    grants λ values. values ≡ (16 + 6 * v + 6 * getD ws 0 0) ∷ []
+
+-- "places the pieces in chain order, going on after a piece that is refused": each piece of the records rs is answered 12 to 14, or its
+-- best position, against those placed before it, on a strip with Q records. "The answer adds pieces placed and used columns".
+pub record LaidTotals (b : List ℕ) (work Q : ℕ) (rs values : List ℕ) : Type 0 where
+  pub pieces : List Piece
+  pub are-pieces : Pieces b rs pieces
+  pub answer : ℕ → Placing
+  pub fates :
+      (m : ℕ) → m < length pieces →
+      Answers
+      (fateQuestions (sheetW b) (sheetR b) (sheetN b) Q
+      (OccupiedBefore (sheetR b) (λ l. pieceAt pieces l .outline) (λ l p. answer l ≡ Placed p) m)
+      (pieceAt pieces m .outline) (pieceAt pieces m .mask) work)
+      (placing (answer m))
+  pub placed : ℕ
+  pub used : ℕ
+  pub counted : CountPlaced (λ m. fateOf (answer m)) (length pieces) placed
+  pub reached : Used (sheetR b) (λ m. pieceAt pieces m .outline) (λ m. fateOf (answer m)) (length pieces) used
+  pub values-are : values ≡ placed ∷ used ∷ []
+
+-- "lay 1 to 4, 6 to 11, 15": with values of which Given holds, told the number of records and the piece records
+unfoldable pub layQuestionsTo : (ℕ → List ℕ → List ℕ → Type 0) → List ℕ → ℕ → ℕ → Questions
+unfolding Question4 Question6
+layQuestionsTo Given b strip out =
+    asks 1 0 (Question1 b) λ _.
+    asks 2 0 (Question2 b) λ _.
+    asks 3 0 (Question3 (sheetW b)) λ _.
+    asks 16 0 (Question16 (sheetR b)) λ _.
+    asks 17 0 (Question17 (sheetN b)) λ _.
+    asks 4 0 (Question4 (sheetN b) strip) λ q4.
+    asks 6 0 (Question6 b) λ q6.
+    chainQuestions b 1 (q6 .0)
+    (asks 15 0 (Question15 (4 * length (q6 .0)) out) λ _.
+    grants λ values. Given (q4 .0) (q6 .0) values)
+
+abbrev pub layQuestions : List ℕ → ℕ → ℕ → ℕ → Questions
+layQuestions b strip out work = layQuestionsTo (LaidTotals b work) b strip out
+
+-- What one granted place call does to any strip: its figures stay, and it holds the piece's cells as well.
+pub record PlacedAlone (s o : List ℕ) (mask : ℕ) (p : Position) (s' : List ℕ) : Type 0 where
+  pub best : Best (widthOf s) (resolutionOf s) (columnsOf s) (Holds s) o mask p
+  pub well-formed : Question5 s'
+  pub long : length s' ≡ length s
+  pub width : widthOf s' ≡ widthOf s
+  pub resolution : resolutionOf s' ≡ resolutionOf s
+  pub columns : columnsOf s' ≡ columnsOf s
+  pub holds : (i j : ℕ) → Holds s' i j ↔ (Holds s i j ⊎ cellsAt (resolutionOf s) o p i j)
+
+pub record Demand1-numbers : Type 0 where
+  pub open-asks :
+      {W R N : ℕ} {s s' : List ℕ} {a : Opening} → OpenStep W R N s a s' → Answers (openQuestions W R N (length s)) (opening a)
+  pub cover-asks :
+      {o : List ℕ} {t R : ℕ} {out out' : List ℕ} {a : Covering} → CoverStep o t R out a out' →
+      Answers (coverQuestions o t R (length out)) (covering a)
+  -- "For one place call alone, a cell is occupied if a run of the lent strip holds it."
+  pub place-asks :
+      {s o : List ℕ} {mask : ℕ} {work s' work' : List ℕ} {a : Placing} → PlaceStep s o mask work a s' work' →
+      Answers (placeQuestions s (Holds s) o mask (length work)) (placing a)
+  pub place-alone :
+      {s o : List ℕ} {mask : ℕ} {work s' work' : List ℕ} {p : Position} → PlaceStep s o mask work (Placed p) s' work' →
+      PlacedAlone s o mask p s'
+  -- A call of a list: "A cell is occupied there if it is covered for a piece placed by an earlier call of the list".
+  pub list-asks :
+      {W R N : ℕ} {x : Calls} → Trace W R N x → (m : ℕ) → m < x .count →
+      Answers
+      (placeQuestions (x .strip m) (Occupied R (x .call) m) (x .call m .outline) (x .call m .mask) (length (x .call m .work)))
+      (placing (x .call m .answer))
+  pub read-asks :
+      {b out out' : List ℕ} {a : Reading} → ReadStep b out a out' → Answers (readQuestions b (length out)) (reading a)
+  pub write-asks :
+      {W R N : ℕ} {ws out out' : List ℕ} {a : Writing} → WriteStep W R N ws out a out' →
+      Answers (writeQuestions W R N ws (length out)) (writing a)
+  pub lay-asks :
+      {b s out work s' out' work' : List ℕ} {a : Laying} → LayStep b s out work a s' out' work' →
+      Answers (layQuestions b (length s) (length out) (length work)) (laying a)
+  -- "and 12 to 14 only as a piece's fate": each piece of a laid job is placed at its best position or gets the first "no" of 12 to 14,
+  -- against the pieces placed before it.
+  pub lay-fates :
+      {b s out work : List ℕ} {t : Totals} {s' out' work' : List ℕ} → LayStep b s out work (Laid t) s' out' work' →
+      (l : LaysList b s t s' out' work) (Q : ℕ) → Length (sheetN b) Q (length s) → (m : ℕ) → m < length (l .pieces) →
+      Answers
+      (fateQuestions (sheetW b) (sheetR b) (sheetN b) Q (Occupied (sheetR b) (l .list .call) m) (l .list .call m .outline)
+      (l .list .call m .mask) (length work))
+      (placing (l .list .call m .answer))

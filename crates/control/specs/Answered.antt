@@ -1,0 +1,51 @@
+-- Document 01's numbers for the C functions: what include/vikelodu.h reads from an answer of 64 bits is the answer to the questions of
+-- the call. Assumes nothing.
+use mathlib.Core.Bool.{cond}
+use mathlib.Core.List.{List, [], _∷_}
+use Prim.Native.Nat.{ℕ}
+use lib.Dec.{eqb}
+use lib.ListN.{length, take}
+use Rattle.defs.specs.Answer.{Outcome}
+use Rattle.defs.specs.Meaning.Strip.{Holds}
+use Rattle.packing.specs.Packed.{first16, second16, third16, fourth16, high32}
+use Rattle.packing.specs.Steps.{OpenPacked, CoverPacked, PlacePacked, ReadPacked, WritePacked, LayPacked, RetracePacked}
+use Rattle.knife.specs.Retraced.{retraceQuestions}
+use Rattle.claims.specs.Numbers.{Answers, openQuestions, coverQuestions, placeQuestions, readQuestions, writeQuestions, layQuestions}
+
+-- vikelodu_number; then vikelodu_ordinal where it is not 0, else so many values of 16 bits: vikelodu_turn, vikelodu_column and
+-- vikelodu_height, or those of another call
+abbrev pub taken : ℕ → ℕ → Outcome
+taken values n =
+    record {
+      number = first16 n;
+      ordinal = cond (eqb (first16 n) 0) 0 (second16 n);
+      values = cond (eqb (first16 n) 0) (take values (second16 n ∷ third16 n ∷ fourth16 n ∷ [])) [];
+    }
+
+-- the same with the one value of vikelodu_runs or vikelodu_size
+abbrev pub takenWide : ℕ → Outcome
+takenWide n =
+    record {
+      number = first16 n;
+      ordinal = cond (eqb (first16 n) 0) 0 (second16 n);
+      values = cond (eqb (first16 n) 0) (high32 n ∷ []) [];
+    }
+
+pub record PackedNumbers : Type 0 where
+  pub open-asks :
+      {W R N : ℕ} {s : List ℕ} {n : ℕ} {s' : List ℕ} → OpenPacked W R N s n s' → Answers (openQuestions W R N (length s)) (taken 0 n)
+  pub cover-asks :
+      {o : List ℕ} {t R : ℕ} {out : List ℕ} {n : ℕ} {out' : List ℕ} → CoverPacked o t R out n out' →
+      Answers (coverQuestions o t R (length out)) (takenWide n)
+  pub place-asks :
+      {s o : List ℕ} {mask : ℕ} {work : List ℕ} {n : ℕ} {s' work' : List ℕ} → PlacePacked s o mask work n s' work' →
+      Answers (placeQuestions s (Holds s) o mask (length work)) (taken 3 n)
+  pub read-asks :
+      {b out : List ℕ} {n : ℕ} {out' : List ℕ} → ReadPacked b out n out' → Answers (readQuestions b (length out)) (taken 3 n)
+  pub write-asks :
+      {W R N : ℕ} {ws out : List ℕ} {n : ℕ} {out' : List ℕ} → WritePacked W R N ws out n out' →
+      Answers (writeQuestions W R N ws (length out)) (takenWide n)
+  pub lay-asks :
+      {b s out work : List ℕ} {n : ℕ} {s' out' work' : List ℕ} → LayPacked b s out work n s' out' work' →
+      Answers (layQuestions b (length s) (length out) (length work)) (taken 2 n)
+  pub retrace-asks : {o : List ℕ} {n : ℕ} → RetracePacked o n → Answers (retraceQuestions o) (taken 2 n)

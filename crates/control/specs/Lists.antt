@@ -1,0 +1,61 @@
+-- Demand 3 over lists of calls of the C functions vikelodu_open and vikelodu_place, each answer taken apart as include/vikelodu.h does
+-- it; and for vikelodu_lay. Assumes nothing.
+use mathlib.Core.Path.{_≡_}
+use mathlib.Core.Bool.{cond}
+use mathlib.Core.List.{List}
+use Prim.Native.Nat.{ℕ, suc, _<_}
+use lib.Dec.{eqb}
+use Rattle.defs.specs.declared.Placing.{Placing}
+use Rattle.defs.specs.declared.Placing.the-variants.{Placed, Refused}
+use Rattle.packing.specs.Packed.{first16, second16, third16, fourth16}
+use Rattle.defs.specs.Meaning.Sheet.{sheetW, sheetR, sheetN}
+use Rattle.packing.specs.Steps.{OpenPacked, PlacePacked, LayPacked}
+use Rattle.claims.specs.Trace.{Call, Calls}
+use Rattle.claims.specs.Demand3.{Demand3}
+use Rattle.claims.specs.Laying.{LaysList}
+
+-- vikelodu_number; vikelodu_turn, vikelodu_column and vikelodu_height, or vikelodu_ordinal
+abbrev pub unpacked : ℕ → Placing
+unpacked n =
+    cond (eqb (first16 n) 0) (Placed (record { turn = second16 n; column = third16 n; height = fourth16 n }))
+    (Refused (record { number = first16 n; ordinal = second16 n }))
+
+pub record PackedCall : Type 0 where
+  pub outline : List ℕ
+  pub mask : ℕ
+  pub work : List ℕ
+  pub answer : ℕ
+  pub work-after : List ℕ
+
+pub record PackedCalls : Type 0 where
+  pub lent : List ℕ
+  pub count : ℕ
+  pub call : ℕ → PackedCall
+  pub strip : ℕ → List ℕ
+
+-- a list of the C functions' own calls, the open granted
+pub record PackedTrace (W R N : ℕ) (x : PackedCalls) : Type 0 where
+  pub opened : ℕ
+  pub is-granted : first16 opened ≡ 0
+  pub open-step : OpenPacked W R N (x .lent) opened (x .strip 0)
+  pub place-step :
+      (m : ℕ) → m < x .count →
+      PlacePacked (x .strip m) (x .call m .outline) (x .call m .mask) (x .call m .work) (x .call m .answer)
+      (x .strip (suc m)) (x .call m .work-after)
+
+abbrev pub plainCall : PackedCall → Call
+plainCall c =
+    record { outline = c .outline; mask = c .mask; work = c .work; answer = unpacked (c .answer); work-after = c .work-after }
+
+abbrev pub plain : PackedCalls → Calls
+plain x = record { lent = x .lent; count = x .count; call = λ m. plainCall (x .call m); strip = x .strip }
+
+unfoldable pub Packed-demand3 : Type 0
+Packed-demand3 = (W R N : ℕ) (x : PackedCalls) → PackedTrace W R N x → Demand3 W R N (plain x)
+
+-- A granted vikelodu_lay is one list of place calls, of which demand 3 holds, with the totals vikelodu_placed and vikelodu_used.
+unfoldable pub Packed-lay : Type 0
+Packed-lay =
+    (b s out work : List ℕ) (n : ℕ) (s' out' work' : List ℕ) → LayPacked b s out work n s' out' work' → first16 n ≡ 0 →
+    (l : LaysList b s (record { placed = second16 n; used = third16 n }) s' out' work) ×
+    Demand3 (sheetW b) (sheetR b) (sheetN b) (l .list)

@@ -1,0 +1,11 @@
+pub mod Opened
+pub mod Border
+pub mod Sides
+pub mod Rise
+pub mod Apart
+pub mod Rows
+pub mod Limit
+pub mod Step
+pub mod Once
+pub mod Safe
+pub mod Retraced

@@ -1,0 +1,3 @@
+pub mod Knife
+pub mod Safe
+pub mod Retraced

@@ -1,0 +1,5 @@
+pub mod Ranks
+pub mod Between
+pub mod Numbered
+pub mod Bound
+pub mod Most

@@ -1,0 +1,1 @@
+// Theorems only: how many runs an outline has at most. No function.

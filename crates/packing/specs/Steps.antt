@@ -1,0 +1,75 @@
+-- A step of each call, its answer packed in one number of 64 bits: the contracts of the C functions. Assumes nothing.
+use mathlib.Core.List.{List}
+use Prim.Native.Nat.{ℕ}
+use Rattle.defs.specs.declared.Laying.{Laying}
+use Rattle.defs.specs.declared.Opening.{Opening}
+use Rattle.defs.specs.declared.Covering.{Covering}
+use Rattle.defs.specs.declared.Placing.{Placing}
+use Rattle.defs.specs.declared.Reading.{Reading}
+use Rattle.defs.specs.declared.Writing.{Writing}
+use Rattle.defs.specs.declared.Retracing.{Retracing}
+use Rattle.defs.specs.Answer.{opening, covering, placing, reading, writing, laying, retracing}
+use Rattle.defs.specs.Computing.Calls.{OpenStep, CoverStep, PlaceStep}
+use Rattle.defs.specs.Computing.Lay.{LayStep}
+use Rattle.defs.specs.Computing.Sheets.{ReadStep, WriteStep}
+use Rattle.defs.specs.Computing.Bytes.{OpenBytesStep, PlaceBytesStep, LayBytesStep}
+use Rattle.strokes.specs.Retrace.{RetraceStep}
+use Rattle.packing.specs.Packed.{Packs, PacksWide}
+
+pub record OpenPacked (W R N : ℕ) (s : List ℕ) (n : ℕ) (s' : List ℕ) : Type 0 where
+  pub answer : Opening
+  pub step : OpenStep W R N s answer s'
+  pub packs : Packs n (opening answer)
+
+-- the number of runs in the high 32 bits
+pub record CoverPacked (o : List ℕ) (t R : ℕ) (out : List ℕ) (n : ℕ) (out' : List ℕ) : Type 0 where
+  pub answer : Covering
+  pub step : CoverStep o t R out answer out'
+  pub packs : PacksWide n (covering answer)
+
+-- turn, column, height after the number 0
+pub record PlacePacked (s o : List ℕ) (mask : ℕ) (work : List ℕ) (n : ℕ) (s' work' : List ℕ) : Type 0 where
+  pub answer : Placing
+  pub step : PlaceStep s o mask work answer s' work'
+  pub packs : Packs n (placing answer)
+
+-- W, R, N after the number 0
+pub record ReadPacked (b out : List ℕ) (n : ℕ) (out' : List ℕ) : Type 0 where
+  pub answer : Reading
+  pub step : ReadStep b out answer out'
+  pub packs : Packs n (reading answer)
+
+-- the size in bytes in the high 32 bits
+pub record WritePacked (W R N : ℕ) (ws out : List ℕ) (n : ℕ) (out' : List ℕ) : Type 0 where
+  pub answer : Writing
+  pub step : WriteStep W R N ws out answer out'
+  pub packs : PacksWide n (writing answer)
+
+-- pieces placed, used columns after the number 0
+pub record LayPacked (b s out work : List ℕ) (n : ℕ) (s' out' work' : List ℕ) : Type 0 where
+  pub answer : Laying
+  pub step : LayStep b s out work answer s' out' work'
+  pub packs : Packs n (laying answer)
+
+-- the numbers of two edges after the number 0, both 0 where nothing is drawn twice
+pub record RetracePacked (o : List ℕ) (n : ℕ) : Type 0 where
+  pub answer : Retracing
+  pub step : RetraceStep o answer
+  pub packs : Packs n (retracing answer)
+
+-- The same on buffers passed as bytes.
+
+pub record OpenBytesPacked (W R N : ℕ) (strip : List ℕ) (n : ℕ) (strip' : List ℕ) : Type 0 where
+  pub answer : Opening
+  pub step : OpenBytesStep W R N strip answer strip'
+  pub packs : Packs n (opening answer)
+
+pub record PlaceBytesPacked (strip o : List ℕ) (mask : ℕ) (work : List ℕ) (n : ℕ) (strip' work' : List ℕ) : Type 0 where
+  pub answer : Placing
+  pub step : PlaceBytesStep strip o mask work answer strip' work'
+  pub packs : Packs n (placing answer)
+
+pub record LayBytesPacked (sheet strip out work : List ℕ) (n : ℕ) (strip' out' work' : List ℕ) : Type 0 where
+  pub answer : Laying
+  pub step : LayBytesStep sheet strip out work answer strip' out' work'
+  pub packs : Packs n (laying answer)

@@ -1,0 +1,62 @@
+-- All that is promised, on one page; which theorem holds each promise is in proofs/Promises. A call's contract is its step, and nothing
+-- else, for every input: open::open OpenStep, cover::cover CoverStep, place::place PlaceStep, reads::read ReadStep, writes::write
+-- WriteStep, laying::lay LayStep, retrace::retrace RetraceStep; vikelodu's C functions the same steps, packed (packing/specs/Steps);
+-- text::lay_text, what program lay prints, layText. The promises are about steps, so they hold of every program whose calls keep these
+-- contracts. Assumes nothing.
+use mathlib.Core.Logic.{_↔_}
+use mathlib.Core.List.{List}
+use Prim.Native.Nat.{ℕ, _≤_, _<_}
+use Rattle.defs.specs.Meaning.Limits.{mostTurn}
+use Rattle.defs.specs.Meaning.Outline.{sides}
+use Rattle.defs.specs.Meaning.Turn.{turned}
+use Rattle.defs.specs.Meaning.Question.{Question7, Question8, Question9, Question10, Question11, Question12}
+use Rattle.strokes.specs.Stroke.{DrawnOnce}
+use Rattle.claims.specs.Demand1.{Demand1}
+use Rattle.claims.specs.Numbers.{Demand1-numbers, One-answer}
+use Rattle.claims.specs.Demand2.{Demand2-cells, Demand2-sheets, Demand2-again}
+use Rattle.claims.specs.Demand3.{Demand3-holds}
+use Rattle.claims.specs.Laying.{Lay-demand3}
+use Rattle.claims.specs.Wrong.{WrongLists}
+use Rattle.claims.specs.Choice.{OnlyNumbersOpen, AnyNumbers}
+use Rattle.knife.specs.Safe.{Knife-safe, List-knife-safe, Lay-knife-safe}
+use Rattle.knife.specs.Retraced.{Retrace-asks}
+use Rattle.control.specs.Answered.{PackedNumbers}
+use Rattle.control.specs.Lists.{Packed-demand3, Packed-lay}
+use Rattle.control.specs.Bytes.{BytesAreWords, Bytes-demand3}
+
+pub record Promises : Type 1 where
+  -- Demand 1. Each call's answer is the first question that gets "no", with its number and ordinal, else its values; there is no choice.
+  pub numbers : Demand1-numbers
+  pub no-choice : One-answer
+  -- A refusal leaves strip and output as they were, a work buffer is zero after each call, what is past an output stays.
+  pub buffers : Demand1
+  -- 11 does not depend on turn and resolution, and no outline needs more than 1,536,000 words of work (12).
+  pub same-11 :
+      (o : List ℕ) → Question7 o → (mask mask' R R' : ℕ) → Question9 mask → Question9 mask' → 1 ≤ R → 1 ≤ R' →
+      Question11 o mask R ↔ Question11 o mask' R'
+  pub enough : (o : List ℕ) (mask R : ℕ) → Question7 o → Question8 o → Question10 o mask → 1 ≤ R → Question12 o mask R 1536000
+  -- Demand 2. Cover gives the cells that hold a point inside; sheets read back. What a strip holds is in demand 3, and for one place
+  -- call on any strip in `numbers` (place-alone).
+  pub cells : Demand2-cells
+  pub sheets : Demand2-sheets
+  pub sheets-again : Demand2-again
+  -- Demand 3, of every list of place calls and of every laid job; the buying office's wrong programs break it; only record numbers and
+  -- the order of the free chain are open.
+  pub list : Demand3-holds
+  pub job : Lay-demand3
+  pub wrong : WrongLists
+  pub numbering : OnlyNumbersOpen
+  pub any-numbering : AnyNumbers
+  -- The knife, of every list of which demand 3 holds, so of lists of place calls and of laid jobs; and what an outline draws twice, the
+  -- same in every turn.
+  pub knife : Knife-safe
+  pub list-knife : List-knife-safe
+  pub job-knife : Lay-knife-safe
+  pub retraced : Retrace-asks
+  pub same-retraced : (o : List ℕ) → 0 < sides o → (t : ℕ) → t ≤ mostTurn → DrawnOnce (turned o t) ↔ DrawnOnce o
+  -- The C functions: what include/vikelodu.h reads from an answer, lists of their calls, a laid job; buffers passed as bytes.
+  pub c-numbers : PackedNumbers
+  pub c-list : Packed-demand3
+  pub c-job : Packed-lay
+  pub c-bytes : BytesAreWords
+  pub c-bytes-list : Bytes-demand3

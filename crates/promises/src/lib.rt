@@ -1,0 +1,1 @@
+// All that is promised, on one page: proofs/Promises. No function.

@@ -1,0 +1,2 @@
+pub mod Stroke
+pub mod Retrace

@@ -1,0 +1,91 @@
+//! Open, place and lay on bytes: "two to a word, low byte first; an odd last byte is
+//! no part of it and stays."
+
+mod common;
+use common::*;
+use reference::bytes::{lay_bytes, open_bytes, place_bytes};
+use reference::Totals;
+
+const ODD: u8 = 0xEE;
+
+/// The bytes of some words and an odd last one.
+fn bytes(words: &[u16]) -> Vec<u8> {
+    let mut bytes: Vec<u8> = words
+        .iter()
+        .flat_map(|word| [(word % 256) as u8, (word / 256) as u8])
+        .collect();
+    bytes.push(ODD);
+    bytes
+}
+
+#[test]
+fn an_opened_strip() {
+    let mut strip = bytes(&other_words(strip_length(10, 6)));
+    assert_eq!(open_bytes(300, 2, 10, &mut strip), Ok(()));
+    // 300 is 1 times 256 and 44.
+    assert_eq!(strip[..6], [44, 1, 2, 0, 10, 0]);
+    assert_eq!(strip, bytes(&opened(300, 2, 10, 6)));
+}
+
+#[test]
+fn three_squares() {
+    let mut strip = bytes(&opened(10, 2, 10, 4));
+    let mut words = opened(10, 2, 10, 4);
+    for position in [at(0, 0, 0), at(0, 0, 4), at(0, 2, 0)] {
+        let mut work = bytes(&other_words(6));
+        let answer = place_bytes(&mut strip, &bytes(&S), 1, &mut work);
+        assert_eq!(answer, Ok(position));
+        assert_eq!(work, bytes(&[0; 6]));
+        assert_eq!(check_place(&mut words, &S, 1, 6), Ok(position));
+        assert_eq!(strip, bytes(&words));
+    }
+    let job = sheet(10, 2, 10, &[(&S, 1), (&S, 1), (&S, 1)]);
+    let mut laid = bytes(&other_words(strip_length(10, 4)));
+    let (mut output, mut work) = (bytes(&other_words(13)), bytes(&other_words(6)));
+    let answer = lay_bytes(&job, &mut laid, &mut output, &mut work);
+    assert_eq!(answer, Ok(Totals { placed: 3, used: 4 }));
+    assert_eq!(laid, strip);
+    let entries = [[0, 0, 0, 0], [0, 0, 0, 4], [0, 0, 2, 0]].concat();
+    let after = other_words(13)[12];
+    assert_eq!(output, bytes(&[entries, vec![after]].concat()));
+    assert_eq!(work, bytes(&[0; 6]));
+}
+
+/// Strip and output keep their bytes; the work buffer is cleared all the same.
+#[test]
+fn refused() {
+    let before = bytes(&other_words(strip_length(10, 4)));
+    let mut strip = before.clone();
+    assert_eq!(open_bytes(10, 2, 0, &mut strip), Err(no(17, 0)));
+    let mut work = bytes(&other_words(6));
+    let answer = place_bytes(&mut strip, &bytes(&S), 1, &mut work);
+    assert_eq!(answer, Err(no(5, 0)));
+    assert_eq!(work, bytes(&[0; 6]));
+    let (mut output, mut work) = (bytes(&other_words(3)), bytes(&other_words(6)));
+    let job = sheet(10, 2, 10, &[(&S, 1)]);
+    let answer = lay_bytes(&job, &mut strip, &mut output, &mut work);
+    assert_eq!(answer, Err(no(15, 0)));
+    assert_eq!(strip, before);
+    assert_eq!(output, bytes(&other_words(3)));
+    assert_eq!(work, bytes(&[0; 6]));
+}
+
+/// An odd byte is no word: with one byte less the last word is missing.
+#[test]
+fn an_odd_byte_is_no_word() {
+    let mut strip = bytes(&other_words(strip_length(10, 4)));
+    let whole = strip.len() - 1;
+    assert_eq!(
+        open_bytes(10, 2, 10, &mut strip[..whole - 1]),
+        Err(no(4, 0))
+    );
+    assert_eq!(open_bytes(10, 2, 10, &mut strip[..whole]), Ok(()));
+    let (square, mut work) = (bytes(&S), bytes(&other_words(6)));
+    let mut place = |outline: &[u8], work: &mut [u8]| {
+        place_bytes(&mut strip, outline, 1, work).map_err(|refusal| refusal.number)
+    };
+    assert_eq!(place(&square[..15], &mut work), Err(7));
+    assert_eq!(place(&square, &mut work[..11]), Err(12));
+    assert_eq!(place(&square, &mut work[..12]), Ok(at(0, 0, 0)));
+    assert_eq!(place(&[], &mut []), Err(7));
+}
