@@ -4,7 +4,8 @@
 //! engine at each call; the plain program keeps its own form of it. A second row of
 //! times is that of a plain program which, like the engine, asks question 5 of the
 //! strip's words at each call and writes them anew: beside its own form, from which
-//! it is spared to make its columns.
+//! it is spared to make its columns. The engine's calls on buffers of bytes are
+//! measured beside its own on words.
 
 use engine::plain_place::Board;
 use engine::{data, plain_strip};
@@ -57,6 +58,22 @@ fn by_engine(list: &List, strip: &mut [u16], work: &mut [u16]) -> Laid {
     })
 }
 
+/// The same with every buffer as bytes. Outlines are made into bytes beforehand.
+fn by_engine_on_bytes(
+    list: &List,
+    outlines: &[Vec<u8>],
+    strip: &mut [u8],
+    work: &mut [u8],
+) -> Laid {
+    let mut outlines = outlines.iter();
+    let start = Instant::now();
+    assert!(engine::open_bytes(WIDTH, list.r, list.n, strip).is_ok());
+    laid(list, start, |_| {
+        let outline = outlines.next().expect("one for each");
+        engine::place_bytes(strip, outline, list.mask, work)
+    })
+}
+
 fn by_plain(list: &List) -> (Laid, Board) {
     let start = Instant::now();
     let mut board = Board::open(WIDTH, list.r, list.n, list.q);
@@ -84,12 +101,19 @@ fn row(name: &str, list: &List) {
     let mut strip = vec![0; 4 + usize::from(list.n) + 4 * list.q];
     let mut work = vec![0; WORK];
     let mut words = strip.clone();
+    let (mut strip_bytes, mut work_bytes) = (vec![0; 2 * strip.len()], vec![0; 2 * WORK]);
+    let bytes = |words: &Vec<u16>| words.iter().flat_map(|word| word.to_le_bytes()).collect();
+    let outlines: Vec<Vec<u8>> = list.outlines.iter().map(bytes).collect();
     let (mut engine, mut plain, mut on_words) = ([f64::MAX; 4], [f64::MAX; 4], [f64::MAX; 4]);
+    let mut on_bytes = f64::MAX;
     let mut placed = 0;
     let start = Instant::now();
     let mut rounds = 0;
     while rounds < 5 || (rounds < 40 && start.elapsed().as_millis() < 1_500) {
         let ours = by_engine(list, &mut strip, &mut work);
+        let fourth = by_engine_on_bytes(list, &outlines, &mut strip_bytes, &mut work_bytes);
+        assert!(fourth.answers == ours.answers && strip_bytes == bytes(&strip));
+        on_bytes = on_bytes.min(fourth.quarters.iter().sum());
         let (theirs, board) = by_plain(list);
         assert_eq!(ours.answers, theirs.answers);
         assert!(reference::strip_runs(&strip) == board.columns());
@@ -106,7 +130,7 @@ fn row(name: &str, list: &List) {
     let sum = |quarters: [f64; 4]| -> f64 { quarters.iter().sum() };
     let (ours, theirs, third) = (sum(engine), sum(plain), sum(on_words));
     println!(
-        "{name:9} R {:3} mask {:2}  N {:4} Q {:5}  placed {placed:3} of {:3}  engine {:9.0} us  plain {:9.0} us  ratio {:.2}  on words {:9.0} us  ratio {:.2}",
+        "{name:9} R {:3} mask {:2}  N {:4} Q {:5}  placed {placed:3} of {:3}  engine {:9.0} us  plain {:9.0} us  ratio {:.2}  on words {:9.0} us  ratio {:.2}  as bytes {on_bytes:9.0} us, {:.2} of words",
         list.r,
         list.mask,
         list.n,
@@ -116,7 +140,8 @@ fn row(name: &str, list: &List) {
         theirs,
         ours / theirs,
         third,
-        ours / third
+        ours / third,
+        on_bytes / ours
     );
     let times = |quarters: [f64; 4]| quarters.map(|time| format!("{time:8.0}")).join(" ");
     println!("    quarters  engine {}", times(engine));
