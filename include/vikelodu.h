@@ -17,9 +17,9 @@
  * - A call keeps its tables on the stack, and nothing checks that there is room: 250 KB in vikelodu_lay, 220 KB in vikelodu_place,
  *   40 KB in vikelodu_cover, vikelodu_read and vikelodu_write, 10 KB in vikelodu_open, 1 KB in vikelodu_retrace. The calls on bytes
  *   say their own.
- * - vikelodu_open_bytes, vikelodu_place_bytes and vikelodu_lay_bytes take every buffer as bytes, two to a word, low byte first: a
- *   pointer to its first byte, which needs no alignment, and its number of bytes. An odd last byte is no part of the buffer and
- *   stays.
+ * - vikelodu_open_bytes, vikelodu_place_bytes and vikelodu_lay_bytes take buffers of words as bytes, two to a word, low byte first: a
+ *   pointer to the first byte, which needs no alignment, and the number of bytes. An odd last byte is no part of such a buffer and
+ *   stays. (Of a job sheet, which is bytes in every call, all bytes count.)
  *
  * Lengths
  *
@@ -250,9 +250,9 @@ uint64_t vikelodu_retrace(const uint16_t *outline, size_t outline_words);
  *   uint8_t strip[2 * VIKELODU_STRIP_WORDS(10, 6)];
  *   uint64_t answer = vikelodu_open_bytes(10, 2, 10, strip, sizeof strip);
  *
- * Buffers are copied to the stack and back, but for the work buffer, which is cleared and otherwise not touched. The stack needed is
- * 160 KB in vikelodu_open_bytes; 400 KB in vikelodu_place_bytes and 430 KB in vikelodu_lay_bytes where the work buffer has at most
- * 9,000 words, and 3.5 MB where it has more.
+ * Strip, outline and output go through copies on the stack; the sheet is read where it lies, and the work buffer is cleared and
+ * otherwise not touched. The stack needed is 160 KB in vikelodu_open_bytes; 400 KB in vikelodu_place_bytes and 430 KB
+ * in vikelodu_lay_bytes where the work buffer has at most 9,000 words, and 3.5 MB where it has more.
  */
 uint64_t vikelodu_open_bytes(uint16_t width, uint16_t resolution, uint16_t columns, uint8_t *strip, size_t strip_bytes);
 uint64_t vikelodu_place_bytes(uint8_t *strip, size_t strip_bytes, const uint8_t *outline, size_t outline_bytes, uint16_t mask,
