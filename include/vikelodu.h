@@ -2,9 +2,10 @@
  * Vikelodu: outlines laid on a strip of board.
  *
  * A strip is opened once and then takes one piece after another. Each piece goes to the free position that ends in the least
- * column, then lowest, then in the least turn. A job sheet carries the figures of a strip and a cut list of pieces as bytes; a
- * list is read from it and written to it, and a whole job is laid from it in one call. Every call answers one number of 64 bits
- * and says in it what became of the call: granted, or refused with the number of the question that got "no".
+ * column, then lowest, then in the least turn; a program may also see that position before the piece is laid, and lay the piece
+ * there or at another free position. A job sheet carries the figures of a strip and a cut list of pieces as bytes; a list is read
+ * from it and written to it, and a whole job is laid from it in one call. Every call answers one number of 64 bits and says in it
+ * what became of the call: granted, or refused with the number of the question that got "no".
  *
  * Words and buffers
  *
@@ -15,11 +16,11 @@
  * - A pointer to words is aligned to 2 bytes. No pointer is NULL, also where the buffer has no words or bytes.
  * - The buffers of one call must not overlap; nothing checks that.
  * - A call keeps its tables on the stack, and nothing checks that there is room: 250 KB in vikelodu_lay, 220 KB in vikelodu_place,
- *   40 KB in vikelodu_cover, vikelodu_read and vikelodu_write, 10 KB in vikelodu_open, 1 KB in vikelodu_retrace. The calls on bytes
- *   say their own.
- * - vikelodu_open_bytes, vikelodu_place_bytes and vikelodu_lay_bytes take buffers of words as bytes, two to a word, low byte first: a
- *   pointer to the first byte, which needs no alignment, and the number of bytes. An odd last byte is no part of such a buffer and
- *   stays. (Of a job sheet, which is bytes in every call, all bytes count.)
+ *   vikelodu_ask and vikelodu_commit, 40 KB in vikelodu_cover, vikelodu_read and vikelodu_write, 10 KB in vikelodu_open, 1 KB in
+ *   vikelodu_retrace. The calls on bytes say their own.
+ * - The calls whose names end in _bytes take buffers of words as bytes, two to a word, low byte first: a pointer to the first byte,
+ *   which needs no alignment, and the number of bytes. An odd last byte is no part of such a buffer and stays. (Of a job sheet, which
+ *   is bytes in every call, all bytes count.)
  *
  * Lengths
  *
@@ -29,9 +30,9 @@
  * Refusals
  *
  * The questions of a call are asked in rising order, those of a piece (7 to 11) piece by piece, and the first "no" is the answer;
- * but 16 and 17 are asked directly after 3, or where 3 would be, and vikelodu_write asks for the sheet's size (2) after its
- * pieces. A refused call changes no word of the strip and no word or byte of the output; the work buffer is zero after every
- * call, granted or refused. What is lent as const is never changed.
+ * but 16 and 17 are asked directly after 3, or where 3 would be, vikelodu_commit asks 18 after 12 and before 14, and
+ * vikelodu_write asks for the sheet's size (2) after its pieces. A refused call changes no word of the strip and no word or byte
+ * of the output; the work buffer is zero after every call, granted or refused. What is lent as const is never changed.
  * In vikelodu_lay 12 to 14 refuse one piece and not the job: they are in the output and never in the answer.
  */
 #ifndef VIKELODU_H
@@ -74,7 +75,7 @@ enum vikelodu_number {
     VIKELODU_NO_CELL = 11,
     /* The work buffer, or cover's output, has not three words for each run of the allowed turn that has most runs. */
     VIKELODU_BUFFER = 12,
-    /* There is no free position in any allowed turn. */
+    /* There is no free position in any allowed turn. Never answered by vikelodu_commit. */
     VIKELODU_NO_POSITION = 13,
     /* With the piece at its position the strip would have more runs than records. */
     VIKELODU_RECORDS = 14,
@@ -85,7 +86,9 @@ enum vikelodu_number {
        vikelodu_cover. */
     VIKELODU_RESOLUTION = 16,
     /* The columns are not 1 to 4,096. Answered by the calls that answer 3, which ask it directly after 16. */
-    VIKELODU_COLUMNS = 17
+    VIKELODU_COLUMNS = 17,
+    /* The position is off the strip, or not free. Answered by vikelodu_commit alone, which asks it in the place of 13. */
+    VIKELODU_NOT_FREE = 18
 };
 
 /* The words of a strip. A record holds one run; what the pieces need depends on their form and on how their runs join. */
@@ -124,7 +127,7 @@ uint64_t vikelodu_open(uint16_t width, uint16_t resolution, uint16_t columns, ui
 /*
  * Lays one piece: finds the best free position in the allowed turns and enters the piece's cells there.
  *
- *   strip     as vikelodu_open or the last vikelodu_place left it, with all of its words
+ *   strip     as vikelodu_open or the last vikelodu_place or vikelodu_commit left it, with all of its words
  *   outline   3 to 64 vertices as words x, y, x, y and so on, in units, 0 to 16,000, closed from the last vertex to the first;
  *             it is not changed
  *   mask      the allowed turns, 1 to 15: bit t (1, 2, 4, 8) allows turn t
@@ -141,6 +144,46 @@ uint64_t vikelodu_open(uint16_t width, uint16_t resolution, uint16_t columns, ui
  */
 uint64_t vikelodu_place(uint16_t *strip, size_t strip_words, const uint16_t *outline, size_t outline_words, uint16_t mask,
                         uint16_t *work, size_t work_words);
+
+/*
+ * Looks where vikelodu_place would lay a piece, and lays nothing.
+ *
+ *   strip                 as in vikelodu_place; no word of it is changed
+ *   outline, mask, work   as in vikelodu_place; all words of work are 0 after the call
+ *
+ * The answer is that of vikelodu_place with the same arguments: refused with 5, ordinal 0, or with 7 to 14, ordinal 1; granted, it
+ * has the turn, the column and the height. The spot in millimetres, with the strip's resolution:
+ *
+ *   uint64_t spot = vikelodu_ask(strip, strip_words, outline, outline_words, mask, work, work_words);
+ *   if (vikelodu_number(spot) == VIKELODU_GRANTED)
+ *       printf("%.3f mm to the right, %.3f mm up\n", vikelodu_column(spot) * resolution / 8.0, vikelodu_height(spot) / 8.0);
+ */
+uint64_t vikelodu_ask(const uint16_t *strip, size_t strip_words, const uint16_t *outline, size_t outline_words, uint16_t mask,
+                      uint16_t *work, size_t work_words);
+
+/*
+ * Lays one piece at a given position, if that is on the strip and free. It need not be the best one.
+ *
+ *   strip, outline   as in vikelodu_place
+ *   turn             0 to 3; this turn alone is allowed
+ *   column, height   any; the turned outline lies column * resolution units to the right and height units up
+ *   work             at least three words for each run of the outline in this turn; all words are 0 after the call
+ *
+ * Refused with 5, ordinal 0; with 7 to 12, ordinal 1, asked of the turn alone (9 where the turn is above 3); with 18, ordinal 0; or
+ * with 14, ordinal 1. Never with 13. Granted, the answer is 0.
+ *
+ *   uint64_t answer = vikelodu_commit(strip, strip_words, outline, outline_words, vikelodu_turn(spot), vikelodu_column(spot),
+ *                                     vikelodu_height(spot), work, work_words);
+ *   if (vikelodu_number(answer) == VIKELODU_NOT_FREE)
+ *       printf("the spot has been taken\n");
+ *
+ * At the spot that vikelodu_ask has answered, with the same outline and nothing written to the strip between the two calls, it is
+ * granted; only a work buffer shorter than that of vikelodu_ask may get 12. The piece then lies where vikelodu_place would have laid
+ * it, and the strip has the same runs. Where a piece was laid between them the spot may get 18, or 14 for want of records. On a strip
+ * that only these calls have written since it was opened, no point is ever inside two pieces.
+ */
+uint64_t vikelodu_commit(uint16_t *strip, size_t strip_words, const uint16_t *outline, size_t outline_words, uint16_t turn,
+                         uint16_t column, uint16_t height, uint16_t *work, size_t work_words);
 
 /*
  * Gives the cells that an outline covers in a turn, as runs.
@@ -220,7 +263,7 @@ uint64_t vikelodu_write(uint16_t width, uint16_t resolution, uint16_t columns, c
  *   a piece that is refused   12, 13 or 14, and three times 0
  *
  * The strip is well formed and has the runs that vikelodu_open and then vikelodu_place with each of the pieces would have made;
- * vikelodu_place can lay more pieces on it. All words of the work buffer are 0.
+ * vikelodu_place and vikelodu_commit can lay more pieces on it. All words of the work buffer are 0.
  */
 uint64_t vikelodu_lay(const uint8_t *sheet, size_t sheet_bytes, uint16_t *strip, size_t strip_words, uint16_t *output,
                       size_t output_words, uint16_t *work, size_t work_words);
@@ -230,9 +273,9 @@ uint64_t vikelodu_lay(const uint8_t *sheet, size_t sheet_bytes, uint16_t *strip,
  *
  *   outline   as in vikelodu_place
  *
- * What is promised of placed pieces is about their insides, and a stretch that is drawn twice need not bound one: it may lie over
+ * What is promised of laid pieces is about their insides, and a stretch that is drawn twice need not bound one: it may lie over
  * another piece, and a knife that follows it cuts into that piece. Where an outline draws nothing twice, no point of it, in any
- * turn and wherever it is placed, lies in the interior of another placed piece.
+ * turn and wherever it is laid, lies in the interior of another piece that is laid.
  *
  * Refused with 7 or 8, ordinal 1. Granted, the answer has the numbers of the first two edges that share a stretch, or 0 and 0
  * where nothing is drawn twice. Edge 1 goes from the first vertex to the second, and the last edge back to the first vertex.
@@ -244,19 +287,25 @@ uint64_t vikelodu_lay(const uint8_t *sheet, size_t sheet_bytes, uint16_t *strip,
 uint64_t vikelodu_retrace(const uint16_t *outline, size_t outline_words);
 
 /*
- * vikelodu_open, vikelodu_place and vikelodu_lay on buffers of bytes: the same answers, and the same words left in each buffer, as
- * of the calls on words that have the buffers' words. A buffer may stand at any address, an odd one too.
+ * vikelodu_open, vikelodu_place, vikelodu_ask, vikelodu_commit and vikelodu_lay on buffers of bytes: the same answers, and the same
+ * words left in each buffer, as of the calls on words that have the buffers' words. A buffer may stand at any address, an odd one
+ * too.
  *
  *   uint8_t strip[2 * VIKELODU_STRIP_WORDS(10, 6)];
  *   uint64_t answer = vikelodu_open_bytes(10, 2, 10, strip, sizeof strip);
  *
  * Strip, outline and output go through copies on the stack; the sheet is read where it lies, and the work buffer is cleared and
- * otherwise not touched. The stack needed is 160 KB in vikelodu_open_bytes; 400 KB in vikelodu_place_bytes and 430 KB
- * in vikelodu_lay_bytes where the work buffer has at most 9,000 words, and 3.5 MB where it has more.
+ * otherwise not touched. The stack needed is 160 KB in vikelodu_open_bytes; 400 KB in vikelodu_place_bytes, vikelodu_ask_bytes and
+ * vikelodu_commit_bytes and 430 KB in vikelodu_lay_bytes where the work buffer has at most 9,000 words, and 3.5 MB where it has
+ * more.
  */
 uint64_t vikelodu_open_bytes(uint16_t width, uint16_t resolution, uint16_t columns, uint8_t *strip, size_t strip_bytes);
 uint64_t vikelodu_place_bytes(uint8_t *strip, size_t strip_bytes, const uint8_t *outline, size_t outline_bytes, uint16_t mask,
                               uint8_t *work, size_t work_bytes);
+uint64_t vikelodu_ask_bytes(const uint8_t *strip, size_t strip_bytes, const uint8_t *outline, size_t outline_bytes, uint16_t mask,
+                            uint8_t *work, size_t work_bytes);
+uint64_t vikelodu_commit_bytes(uint8_t *strip, size_t strip_bytes, const uint8_t *outline, size_t outline_bytes, uint16_t turn,
+                               uint16_t column, uint16_t height, uint8_t *work, size_t work_bytes);
 uint64_t vikelodu_lay_bytes(const uint8_t *sheet, size_t sheet_bytes, uint8_t *strip, size_t strip_bytes, uint8_t *output,
                             size_t output_bytes, uint8_t *work, size_t work_bytes);
 
@@ -264,10 +313,10 @@ uint64_t vikelodu_lay_bytes(const uint8_t *sheet, size_t sheet_bytes, uint8_t *s
 static inline uint16_t vikelodu_number(uint64_t answer) { return (uint16_t)answer; }
 
 /* Of a refused call: the ordinal of the piece that is at fault or does not fit, else 0. It is the piece's place in the sheet's
-   chain or in the list, and 1 where one outline is lent. */
+   chain or in the list, and 1 where one outline is lent; 18, where a position is at fault, has 0. */
 static inline uint16_t vikelodu_ordinal(uint64_t answer) { return (uint16_t)(answer >> 16); }
 
-/* Of a granted vikelodu_place. */
+/* Of a granted vikelodu_place or vikelodu_ask. */
 static inline uint16_t vikelodu_turn(uint64_t answer) { return (uint16_t)(answer >> 16); }
 static inline uint16_t vikelodu_column(uint64_t answer) { return (uint16_t)(answer >> 32); }
 static inline uint16_t vikelodu_height(uint64_t answer) { return (uint16_t)(answer >> 48); }

@@ -82,15 +82,42 @@ static struct buffer opened(uint16_t width, uint16_t resolution, uint16_t column
     return strip;
 }
 
-/* Place with a work buffer of so many words; the answer, and the strip unchanged where it is refused. */
-static void place(const char *what, struct buffer strip, const uint16_t *outline, size_t outline_words, uint16_t mask,
-                  size_t work_words, uint64_t wanted) {
+/* What a program wants of a strip for an outline: place or ask with the mask `turns`, or commit in the turn `turns`. */
+struct wish {
+    enum { PLACING, ASKING, COMMITTING } call;
+    uint16_t turns, column, height;
+};
+
+static struct wish placing(uint16_t mask) { return (struct wish){PLACING, mask, 0, 0}; }
+
+static struct wish asking(uint16_t mask) { return (struct wish){ASKING, mask, 0, 0}; }
+
+static struct wish committing(uint16_t turn, uint16_t column, uint16_t height) {
+    return (struct wish){COMMITTING, turn, column, height};
+}
+
+static uint64_t call(struct wish of, struct buffer strip, struct buffer outline, struct buffer work) {
+    switch (of.call) {
+    case PLACING:
+        return vikelodu_place(strip.words, strip.count, outline.words, outline.count, of.turns, work.words, work.count);
+    case ASKING:
+        return vikelodu_ask(strip.words, strip.count, outline.words, outline.count, of.turns, work.words, work.count);
+    default:
+        return vikelodu_commit(strip.words, strip.count, outline.words, outline.count, of.turns, of.column, of.height,
+                               work.words, work.count);
+    }
+}
+
+/* The call with a work buffer of so many words: the answer, the work buffer zero, and the strip unchanged where the call is
+   refused or an ask. */
+static void lend(const char *what, struct wish of, struct buffer strip, const uint16_t *outline, size_t outline_words,
+                 size_t work_words, uint64_t wanted) {
     struct buffer before = copy(strip);
     struct buffer lent = make(outline_words);
     struct buffer work = make(work_words);
     memcpy(lent.words, outline, 2 * outline_words);
-    expect(what, vikelodu_place(strip.words, strip.count, lent.words, lent.count, mask, work.words, work.count), wanted);
-    if (vikelodu_number(wanted) != VIKELODU_GRANTED) {
+    expect(what, call(of, strip, lent, work), wanted);
+    if (vikelodu_number(wanted) != VIKELODU_GRANTED || of.call == ASKING) {
         expect_same(what, strip, before);
     }
     for (size_t i = 0; i < work.count; i++) {
@@ -106,7 +133,23 @@ static void place(const char *what, struct buffer strip, const uint16_t *outline
 }
 
 #define PLACE(what, strip, outline, mask, work_words, wanted) \
-    place(what, strip, outline, WORDS(outline), mask, work_words, wanted)
+    lend(what, placing(mask), strip, outline, WORDS(outline), work_words, wanted)
+#define ASK(what, strip, outline, mask, work_words, wanted) \
+    lend(what, asking(mask), strip, outline, WORDS(outline), work_words, wanted)
+#define COMMIT(what, strip, outline, turn, column, height, work_words, wanted) \
+    lend(what, committing(turn, column, height), strip, outline, WORDS(outline), work_words, wanted)
+
+/* Place, ask and commit refuse an outline in one turn alike. The commit is off the strip, which is asked after this. */
+static void refused_alike(const char *what, struct buffer strip, const uint16_t *outline, size_t outline_words, uint16_t turn,
+                          size_t work_words, uint64_t number, uint64_t ordinal) {
+    uint16_t mask = (uint16_t)(1 << turn);
+    lend(what, placing(mask), strip, outline, outline_words, work_words, refused(number, ordinal));
+    lend(what, asking(mask), strip, outline, outline_words, work_words, refused(number, ordinal));
+    lend(what, committing(turn, 65535, 65535), strip, outline, outline_words, work_words, refused(number, ordinal));
+}
+
+#define REFUSED_ALIKE(what, strip, outline, turn, work_words, number, ordinal) \
+    refused_alike(what, strip, outline, WORDS(outline), turn, work_words, number, ordinal)
 
 /* The run of a column that has one; the chains are followed, as the numbers of the records are not promised. */
 static void expect_run(struct buffer strip, size_t column, uint16_t low, uint16_t high) {
@@ -123,10 +166,28 @@ static void expect_run(struct buffer strip, size_t column, uint16_t low, uint16_
     expect("next", record[3], 0);
 }
 
+/* Two strips of equal length have the same runs, whichever records hold them. */
+static void expect_same_runs(const char *what, struct buffer got, struct buffer wanted) {
+    size_t columns = wanted.words[2];
+    const uint16_t *got_records = got.words + 4 + columns, *wanted_records = wanted.words + 4 + columns;
+    for (size_t column = 0; column < columns; column++) {
+        size_t left = got.words[4 + column], right = wanted.words[4 + column];
+        while (left != 0 && right != 0) {
+            const uint16_t *a = got_records + 4 * (left - 1), *b = wanted_records + 4 * (right - 1);
+            expect(what, (uint64_t)a[1] << 16 | a[2], (uint64_t)b[1] << 16 | b[2]);
+            left = a[3];
+            right = b[3];
+        }
+        expect(what, left, 0);
+        expect(what, right, 0);
+    }
+}
+
 static const uint16_t square[] = {0, 0, 4, 0, 4, 4, 0, 4};
 static const uint16_t t[] = {0, 0, 3, 0, 3, 2};
 static const uint16_t u[] = {0, 0, 3, 2, 0, 2};
 static const uint16_t six_by_two[] = {0, 0, 6, 0, 6, 2, 0, 2};
+static const uint16_t bow_tie[] = {0, 0, 2, 1, 2, 0, 0, 1}; /* passes in turn 0; in turn 1 its edges cross */
 
 /* --------------------------------------------------------------------- open */
 
@@ -177,11 +238,13 @@ static void test_turns(void) {
     PLACE("6 by 2 on width 4", strip, six_by_two, 3, 9, placed(0, 0, 0));
     drop(strip);
     strip = opened(6, 2, 10, 6);
+    ASK("where 6 by 2 would go on width 6", strip, six_by_two, 3, 9, placed(1, 0, 0));
     PLACE("6 by 2 on width 6", strip, six_by_two, 3, 9, placed(1, 0, 0));
     expect_run(strip, 0, 0, 6);
     drop(strip);
     strip = opened(2, 1, 6, 6);
     PLACE("T", strip, t, 1, 9, placed(0, 0, 0));
+    ASK("where U would go after T", strip, u, 1, 9, placed(0, 3, 0));
     PLACE("U after T", strip, u, 1, 9, placed(0, 3, 0));
     expect_run(strip, 2, 0, 2);
     expect_run(strip, 5, 1, 2);
@@ -194,13 +257,15 @@ static void test_ill_formed_strips(void) {
     struct buffer strip = opened(10, 2, 10, 6);
     struct buffer never_opened = make(strip.count);
     struct buffer cut = {strip.words, strip.count - 1};
-    PLACE("a strip never opened", never_opened, square, 1, 6, refused(VIKELODU_ILL_FORMED, 0));
+    REFUSED_ALIKE("a strip never opened", never_opened, square, 0, 6, VIKELODU_ILL_FORMED, 0);
+    refused_alike("and no outline", never_opened, square, 0, 0, 6, VIKELODU_ILL_FORMED, 0);
+    COMMIT("and turn 4", never_opened, square, 4, 0, 0, 6, refused(VIKELODU_ILL_FORMED, 0));
     uint16_t after = strip.words[cut.count];
     strip.words[cut.count] = FENCE;
-    PLACE("a strip cut off", cut, square, 1, 6, refused(VIKELODU_ILL_FORMED, 0));
+    REFUSED_ALIKE("a strip cut off", cut, square, 0, 6, VIKELODU_ILL_FORMED, 0);
     strip.words[cut.count] = after;
     strip.words[4] = 7;
-    PLACE("a head past the last record", strip, square, 1, 6, refused(VIKELODU_ILL_FORMED, 0));
+    REFUSED_ALIKE("a head past the last record", strip, square, 0, 6, VIKELODU_ILL_FORMED, 0);
     strip.words[4] = 0;
     PLACE("the strip mended", strip, square, 1, 6, placed(0, 0, 0));
     drop(strip);
@@ -212,22 +277,28 @@ static void test_refused_outlines(void) {
     static const uint16_t odd[] = {0, 0, 4, 0, 4, 4, 0};
     static const uint16_t far[] = {0, 0, 16001, 0, 0, 4};
     static const uint16_t crossed[] = {0, 0, 1, 2, 1, 0, 0, 2};
-    static const uint16_t bow_tie[] = {0, 0, 2, 1, 2, 0, 0, 1};
     static const uint16_t flat[] = {0, 0, 4, 0, 2, 0};
     uint16_t vertices_65[130] = {0};
     struct buffer strip = opened(10, 1, 10, 12);
-    place("no outline", strip, two_vertices, 0, 1, 90, refused(VIKELODU_VERTICES, 1));
-    PLACE("two vertices", strip, two_vertices, 1, 90, refused(VIKELODU_VERTICES, 1));
-    PLACE("half a vertex", strip, odd, 1, 90, refused(VIKELODU_VERTICES, 1));
-    PLACE("65 vertices", strip, vertices_65, 1, 90, refused(VIKELODU_VERTICES, 1));
-    PLACE("16,001", strip, far, 1, 90, refused(VIKELODU_COORDINATE, 1));
+    refused_alike("no outline", strip, two_vertices, 0, 0, 90, VIKELODU_VERTICES, 1);
+    REFUSED_ALIKE("two vertices", strip, two_vertices, 0, 90, VIKELODU_VERTICES, 1);
+    REFUSED_ALIKE("half a vertex", strip, odd, 0, 90, VIKELODU_VERTICES, 1);
+    REFUSED_ALIKE("65 vertices", strip, vertices_65, 0, 90, VIKELODU_VERTICES, 1);
+    REFUSED_ALIKE("16,001", strip, far, 0, 90, VIKELODU_COORDINATE, 1);
     PLACE("mask 0", strip, square, 0, 90, refused(VIKELODU_TURN, 1));
     PLACE("mask 16", strip, square, 16, 90, refused(VIKELODU_TURN, 1));
-    PLACE("edges that cross", strip, crossed, 1, 90, refused(VIKELODU_CROSSING, 1));
-    PLACE("a bow tie on its side", strip, bow_tie, 2, 90, refused(VIKELODU_CROSSING, 1));
+    ASK("ask with mask 0", strip, square, 0, 90, refused(VIKELODU_TURN, 1));
+    ASK("ask with mask 16", strip, square, 16, 90, refused(VIKELODU_TURN, 1));
+    COMMIT("turn 4", strip, square, 4, 0, 0, 90, refused(VIKELODU_TURN, 1));
+    COMMIT("turn 65,535", strip, square, 65535, 0, 0, 90, refused(VIKELODU_TURN, 1));
+    COMMIT("16,001 and turn 4", strip, far, 4, 0, 0, 90, refused(VIKELODU_COORDINATE, 1));
+    COMMIT("edges that cross and turn 4", strip, crossed, 4, 0, 0, 90, refused(VIKELODU_TURN, 1));
+    REFUSED_ALIKE("edges that cross", strip, crossed, 0, 90, VIKELODU_CROSSING, 1);
+    REFUSED_ALIKE("a bow tie on its side", strip, bow_tie, 1, 90, VIKELODU_CROSSING, 1);
     PLACE("a flat outline", strip, flat, 15, 90, refused(VIKELODU_NO_CELL, 1));
-    PLACE("a work buffer short by one", strip, square, 1, 11, refused(VIKELODU_BUFFER, 1));
-    PLACE("no work buffer", strip, square, 1, 0, refused(VIKELODU_BUFFER, 1));
+    REFUSED_ALIKE("a flat outline", strip, flat, 3, 90, VIKELODU_NO_CELL, 1);
+    REFUSED_ALIKE("a work buffer short by one", strip, square, 0, 11, VIKELODU_BUFFER, 1);
+    REFUSED_ALIKE("no work buffer", strip, square, 0, 0, VIKELODU_BUFFER, 1);
     PLACE("the bow tie as it stands", strip, bow_tie, 1, 6, placed(0, 0, 0));
     drop(strip);
 }
@@ -236,12 +307,121 @@ static void test_no_room(void) {
     struct buffer strip = opened(2, 1, 5, 6);
     PLACE("T", strip, t, 1, 9, placed(0, 0, 0));
     PLACE("no position for U", strip, u, 1, 9, refused(VIKELODU_NO_POSITION, 1));
+    ASK("no position for U", strip, u, 1, 9, refused(VIKELODU_NO_POSITION, 1));
+    for (uint16_t column = 0; column < 5; column++) {
+        COMMIT("nor a free one to commit it at", strip, u, 0, column, 0, 9, refused(VIKELODU_NOT_FREE, 0));
+    }
     drop(strip);
     strip = opened(10, 2, 10, 3);
     PLACE("first square", strip, square, 1, 6, placed(0, 0, 0));
     PLACE("second square", strip, square, 1, 6, placed(0, 0, 4));
     PLACE("no records for the third", strip, square, 1, 6, refused(VIKELODU_RECORDS, 1));
     PLACE("nor in another turn", strip, square, 15, 6, refused(VIKELODU_RECORDS, 1));
+    ASK("nor for an ask", strip, square, 15, 6, refused(VIKELODU_RECORDS, 1));
+    COMMIT("nor for a commit", strip, square, 3, 2, 0, 6, refused(VIKELODU_RECORDS, 1));
+    COMMIT("not free, which is asked first", strip, square, 3, 1, 0, 6, refused(VIKELODU_NOT_FREE, 0));
+    COMMIT("off the strip, which is asked first", strip, square, 3, 9, 0, 6, refused(VIKELODU_NOT_FREE, 0));
+    drop(strip);
+}
+
+/* ----------------------------------------------------------- ask and commit */
+
+/* Three squares by ask and then commit go where place puts them and leave its runs; an ask may come twice. */
+static void test_ask_then_commit(void) {
+    static const uint16_t columns[] = {0, 0, 2}, heights[] = {0, 4, 0};
+    struct buffer asked = opened(10, 2, 10, 4), strip = copy(asked);
+    for (size_t i = 0; i < WORDS(columns); i++) {
+        uint64_t spot = placed(0, columns[i], heights[i]);
+        ASK("where the square would go", asked, square, 1, 6, spot);
+        ASK("where it still would go", asked, square, 1, 6, spot);
+        COMMIT("the square there", asked, square, 0, columns[i], heights[i], 6, 0);
+        COMMIT("the same again", asked, square, 0, columns[i], heights[i], 6, refused(VIKELODU_NOT_FREE, 0));
+        PLACE("the square placed", strip, square, 1, 6, spot);
+        expect_same_runs("ask and commit, and place", asked, strip);
+    }
+    drop(asked);
+    drop(strip);
+}
+
+/* Ask reads a strip in memory that no program can write. */
+static void test_ask_on_constant_words(void) {
+    static const uint16_t strip[] = {4, 2, 2, 1, 0, 0, 2, 0, 0, 2, 2, 0, 0, 0};
+    uint16_t work[6];
+    expect("words", WORDS(strip), VIKELODU_STRIP_WORDS(2, 2));
+    expect("ask", vikelodu_ask(strip, WORDS(strip), square, WORDS(square), 15, work, WORDS(work)), placed(0, 0, 0));
+}
+
+/* A commit need not be at the best position; places and commits after it go around it. */
+static void test_commit_elsewhere(void) {
+    struct buffer strip = opened(10, 2, 10, 6);
+    COMMIT("a square half-way up", strip, square, 0, 0, 3, 6, 0);
+    expect_run(strip, 0, 3, 7);
+    expect_run(strip, 1, 3, 7);
+    ASK("the next one's spot", strip, square, 1, 6, placed(0, 2, 0));
+    PLACE("the next one goes around it", strip, square, 1, 6, placed(0, 2, 0));
+    COMMIT("the last column and the top", strip, square, 0, 8, 6, 6, 0);
+    expect_run(strip, 8, 6, 10);
+    expect_run(strip, 9, 6, 10);
+    drop(strip);
+
+    /* In turn 2 the triangle covers 2 to 4 and then 0 to 4: it may reach into the first one's extent, not into its cells. */
+    static const uint16_t triangle[] = {0, 0, 4, 0, 0, 4};
+    strip = opened(10, 2, 10, 6);
+    PLACE("a triangle", strip, triangle, 1, 6, placed(0, 0, 0));
+    COMMIT("one over it, too low by one", strip, triangle, 2, 0, 1, 6, refused(VIKELODU_NOT_FREE, 0));
+    COMMIT("one over it, in another turn", strip, triangle, 0, 0, 2, 6, refused(VIKELODU_NOT_FREE, 0));
+    COMMIT("one over it", strip, triangle, 2, 0, 2, 6, 0);
+    expect_run(strip, 0, 0, 6);
+    expect_run(strip, 1, 0, 6);
+    drop(strip);
+}
+
+static void test_commit_not_free(void) {
+    /* A square fits up to column 8 and height 6. The positions far off would be on the strip if their sums wrapped around. */
+    static const struct {
+        const char *what;
+        uint16_t column, height;
+    } cases[] = {
+        {"the cell of a corner taken", 1, 3},
+        {"all cells taken", 0, 0},
+        {"a column too far", 9, 0},
+        {"a unit too high", 4, 7},
+        {"column 65,534", 65534, 0},
+        {"column 65,535", 65535, 0},
+        {"height 65,532", 4, 65532},
+        {"height 65,535", 4, 65535},
+        {"both", 65535, 65535},
+    };
+    struct buffer strip = opened(10, 2, 10, 12);
+    COMMIT("a square", strip, square, 0, 0, 0, 6, 0);
+    for (size_t i = 0; i < WORDS(cases); i++) {
+        for (uint16_t turn = 0; turn < 4; turn++) {
+            COMMIT(cases[i].what, strip, square, turn, cases[i].column, cases[i].height, 6, refused(VIKELODU_NOT_FREE, 0));
+        }
+    }
+    COMMIT("a column less", strip, square, 0, 8, 0, 6, 0);
+    COMMIT("a unit less", strip, square, 0, 4, 6, 6, 0);
+    COMMIT("beside the corner", strip, square, 0, 1, 4, 6, 0);
+    drop(strip);
+}
+
+/* A commit's questions are put to its turn alone; those of ask and place to every allowed one. */
+static void test_commit_in_its_turn(void) {
+    static const uint16_t two_by_six[] = {0, 0, 2, 0, 2, 6, 0, 6}; /* one run in turn 0, three in turn 1 */
+    struct buffer strip = opened(6, 2, 10, 6);
+    PLACE("three words for turns 0 and 1", strip, two_by_six, 3, 3, refused(VIKELODU_BUFFER, 1));
+    ASK("three words for turns 0 and 1", strip, two_by_six, 3, 3, refused(VIKELODU_BUFFER, 1));
+    ASK("nine words for turns 0 and 1", strip, two_by_six, 3, 9, placed(0, 0, 0));
+    COMMIT("three words for turn 0", strip, two_by_six, 0, 0, 0, 3, 0);
+    COMMIT("eight words for turn 1", strip, two_by_six, 1, 1, 0, 8, refused(VIKELODU_BUFFER, 1));
+    COMMIT("nine words for turn 1", strip, two_by_six, 1, 1, 0, 9, 0);
+    expect_run(strip, 0, 0, 6);
+    expect_run(strip, 3, 0, 2);
+    drop(strip);
+    strip = opened(10, 1, 10, 6);
+    PLACE("a bow tie in turns 0 and 1", strip, bow_tie, 3, 90, refused(VIKELODU_CROSSING, 1));
+    ASK("a bow tie in turns 0 and 1", strip, bow_tie, 3, 90, refused(VIKELODU_CROSSING, 1));
+    COMMIT("a bow tie in turn 0", strip, bow_tie, 0, 0, 0, 6, 0);
     drop(strip);
 }
 
@@ -719,14 +899,32 @@ static void expect_cleared(const char *what, struct bytes of) {
     expect_fences_of_bytes(what, of);
 }
 
-/* Place on words and on bytes of the same strip: the same answer, and the same words after it. */
-static void place_both(const char *what, struct buffer strip, struct bytes as_bytes, const uint16_t *outline,
-                       size_t outline_words, uint16_t mask, size_t work_words, uint64_t wanted) {
+static uint64_t call_on_bytes(struct wish of, struct bytes strip, struct bytes outline, struct bytes work) {
+    switch (of.call) {
+    case PLACING:
+        return vikelodu_place_bytes(strip.at, strip.count, outline.at, outline.count, of.turns, work.at, work.count);
+    case ASKING:
+        return vikelodu_ask_bytes(strip.at, strip.count, outline.at, outline.count, of.turns, work.at, work.count);
+    default:
+        return vikelodu_commit_bytes(strip.at, strip.count, outline.at, outline.count, of.turns, of.column, of.height, work.at,
+                                     work.count);
+    }
+}
+
+/* A strip as words and as bytes. */
+struct both {
+    struct buffer words;
+    struct bytes bytes;
+};
+
+/* The call on words and on bytes of the same strip: the same answer, and the same words after it. */
+static void lend_both(const char *what, struct wish of, struct both strip, const uint16_t *outline, size_t outline_words,
+                      size_t work_words, uint64_t wanted) {
     struct bytes lent = bytes_of(outline, outline_words), before = bytes_of(outline, outline_words);
     struct bytes work = make_bytes(2 * work_words + 1);
-    place(what, strip, outline, outline_words, mask, work_words, wanted);
-    expect(what, vikelodu_place_bytes(as_bytes.at, as_bytes.count, lent.at, lent.count, mask, work.at, work.count), wanted);
-    expect_words(what, as_bytes, strip);
+    lend(what, of, strip.words, outline, outline_words, work_words, wanted);
+    expect(what, call_on_bytes(of, strip.bytes, lent, work), wanted);
+    expect_words(what, strip.bytes, strip.words);
     expect_bytes(what, lent, before.at);
     expect_fences_of_bytes("around the outline", lent);
     expect_cleared("work bytes", work);
@@ -735,29 +933,46 @@ static void place_both(const char *what, struct buffer strip, struct bytes as_by
     drop_bytes(work);
 }
 
-static void test_open_and_place_on_bytes(void) {
+#define BOTH(what, wish, strip, outline, work_words, wanted) \
+    lend_both(what, wish, strip, outline, WORDS(outline), work_words, wanted)
+
+static void test_calls_on_bytes(void) {
     static const uint16_t far[] = {0, 0, 16001, 0, 0, 4};
     struct buffer words = opened(10, 2, 10, 4), other = make(words.count);
-    struct bytes strip = bytes_of(other.words, other.count);
-    expect("open on bytes, columns 0", vikelodu_open_bytes(10, 2, 0, strip.at, strip.count), refused(VIKELODU_COLUMNS, 0));
-    expect("open on bytes, a word less", vikelodu_open_bytes(10, 2, 10, strip.at, strip.count - 2),
+    struct both strip = {words, bytes_of(other.words, other.count)};
+    expect("open on bytes, columns 0", vikelodu_open_bytes(10, 2, 0, strip.bytes.at, strip.bytes.count),
+           refused(VIKELODU_COLUMNS, 0));
+    expect("open on bytes, a word less", vikelodu_open_bytes(10, 2, 10, strip.bytes.at, strip.bytes.count - 2),
            refused(VIKELODU_STRIP_LENGTH, 0));
-    expect_words("strip of a refused open on bytes", strip, other);
-    expect("open on bytes", vikelodu_open_bytes(10, 2, 10, strip.at, strip.count), 0);
-    expect_words("an opened strip", strip, words);
-    place_both("first square", words, strip, square, WORDS(square), 1, 6, placed(0, 0, 0));
-    place_both("second square", words, strip, square, WORDS(square), 1, 6, placed(0, 0, 4));
-    place_both("two vertices", words, strip, square, 4, 1, 6, refused(VIKELODU_VERTICES, 1));
-    place_both("16,001", words, strip, far, WORDS(far), 1, 6, refused(VIKELODU_COORDINATE, 1));
-    place_both("mask 16", words, strip, square, WORDS(square), 16, 6, refused(VIKELODU_TURN, 1));
-    place_both("a work buffer short by a word", words, strip, square, WORDS(square), 1, 5, refused(VIKELODU_BUFFER, 1));
-    place_both("third square", words, strip, square, WORDS(square), 1, 6, placed(0, 2, 0));
-    struct bytes never_opened = bytes_of(other.words, other.count);
-    place_both("a strip never opened", other, never_opened, square, WORDS(square), 1, 6, refused(VIKELODU_ILL_FORMED, 0));
+    expect_words("strip of a refused open on bytes", strip.bytes, other);
+    expect("open on bytes", vikelodu_open_bytes(10, 2, 10, strip.bytes.at, strip.bytes.count), 0);
+    expect_words("an opened strip", strip.bytes, words);
+    BOTH("first square", placing(1), strip, square, 6, placed(0, 0, 0));
+    BOTH("second square's spot", asking(15), strip, square, 6, placed(0, 0, 4));
+    BOTH("second square", committing(0, 0, 4), strip, square, 6, 0);
+    BOTH("second square again", committing(0, 0, 4), strip, square, 6, refused(VIKELODU_NOT_FREE, 0));
+    BOTH("off the strip", committing(3, 65535, 65535), strip, square, 6, refused(VIKELODU_NOT_FREE, 0));
+    BOTH("turn 4", committing(4, 2, 0), strip, square, 6, refused(VIKELODU_TURN, 1));
+    BOTH("turn 65,535", committing(65535, 2, 0), strip, square, 6, refused(VIKELODU_TURN, 1));
+    BOTH("mask 16", placing(16), strip, square, 6, refused(VIKELODU_TURN, 1));
+    BOTH("mask 16", asking(16), strip, square, 6, refused(VIKELODU_TURN, 1));
+    const struct wish each[] = {placing(1), asking(1), committing(0, 65535, 65535)};
+    struct both never_opened = {other, bytes_of(other.words, other.count)};
+    for (size_t i = 0; i < WORDS(each); i++) {
+        lend_both("two vertices", each[i], strip, square, 4, 6, refused(VIKELODU_VERTICES, 1));
+        BOTH("16,001", each[i], strip, far, 6, refused(VIKELODU_COORDINATE, 1));
+        BOTH("a work buffer short by a word", each[i], strip, square, 5, refused(VIKELODU_BUFFER, 1));
+        BOTH("a strip never opened", each[i], never_opened, square, 6, refused(VIKELODU_ILL_FORMED, 0));
+    }
+    BOTH("third square's spot", asking(1), strip, square, 6, placed(0, 2, 0));
+    BOTH("third square", placing(1), strip, square, 6, placed(0, 2, 0));
+    BOTH("no records for one apart", committing(0, 8, 6), strip, square, 6, refused(VIKELODU_RECORDS, 1));
+    BOTH("fourth square", committing(1, 2, 4), strip, square, 6, 0);
+    BOTH("no records for a fifth", asking(1), strip, square, 6, refused(VIKELODU_RECORDS, 1));
     drop(words);
     drop(other);
-    drop_bytes(strip);
-    drop_bytes(never_opened);
+    drop_bytes(strip.bytes);
+    drop_bytes(never_opened.bytes);
 }
 
 /* Lay on words and on bytes: the same answer and the same words, of a refused job too. */
@@ -887,6 +1102,7 @@ static void test_accessors(void) {
 }
 
 int main(void) {
+    setvbuf(stdout, NULL, _IOLBF, 0); /* what differs is printed, also where a call then ends the program */
     test_accessors();
     test_open();
     test_three_squares();
@@ -894,6 +1110,11 @@ int main(void) {
     test_ill_formed_strips();
     test_refused_outlines();
     test_no_room();
+    test_ask_then_commit();
+    test_ask_on_constant_words();
+    test_commit_elsewhere();
+    test_commit_not_free();
+    test_commit_in_its_turn();
     test_cover();
     test_retrace();
     test_bytes();
@@ -904,7 +1125,7 @@ int main(void) {
     test_round_trip();
     test_lay();
     test_lay_on_bytes();
-    test_open_and_place_on_bytes();
+    test_calls_on_bytes();
     test_lay_as_bytes();
     test_refused_jobs();
     test_limits();

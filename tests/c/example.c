@@ -1,4 +1,5 @@
-/* Three squares of 4 by 4 units on a strip 10 units high, in columns of 2 units: one by one, then as a job. */
+/* Squares of 4 by 4 units on a strip 10 units high, in columns of 2 units: three one by one, three as a job, and two more that
+   are shown before they are laid. */
 #include "vikelodu.h"
 
 #include <stdio.h>
@@ -8,10 +9,10 @@ enum { WIDTH = 10, RESOLUTION = 2, COLUMNS = 10, RECORDS = 6 };
 static uint16_t strip[VIKELODU_STRIP_WORDS(COLUMNS, RECORDS)];
 static uint16_t work[300];
 
-static int one_by_one(void) {
-    const uint16_t square[] = {0, 0, 4, 0, 4, 4, 0, 4};
-    const uint16_t mask = 1; /* turn 0 alone */
+static const uint16_t square[] = {0, 0, 4, 0, 4, 4, 0, 4};
+static const uint16_t mask = 1; /* turn 0 alone */
 
+static int one_by_one(void) {
     uint64_t answer = vikelodu_open(WIDTH, RESOLUTION, COLUMNS, strip, sizeof strip / 2);
     if (vikelodu_number(answer) != VIKELODU_GRANTED) {
         printf("open refused %d\n", vikelodu_number(answer));
@@ -56,4 +57,25 @@ static int as_a_job(void) {
     return 0;
 }
 
-int main(void) { return one_by_one() || as_a_job(); }
+/* Two more on the strip as the job left it. A unit is 1/8 mm. */
+static int look_first(void) {
+    for (int piece = 4; piece <= 5; piece++) {
+        uint64_t spot = vikelodu_ask(strip, sizeof strip / 2, square, sizeof square / 2, mask, work, sizeof work / 2);
+        if (vikelodu_number(spot) != VIKELODU_GRANTED) {
+            printf("%d refused %d\n", piece, vikelodu_number(spot));
+            return 1;
+        }
+        printf("%d would lie %.3f mm to the right and %.3f mm up, in turn %d\n", piece,
+               vikelodu_column(spot) * RESOLUTION / 8.0, vikelodu_height(spot) / 8.0, vikelodu_turn(spot));
+        uint64_t answer = vikelodu_commit(strip, sizeof strip / 2, square, sizeof square / 2, vikelodu_turn(spot),
+                                          vikelodu_column(spot), vikelodu_height(spot), work, sizeof work / 2);
+        if (vikelodu_number(answer) != VIKELODU_GRANTED) {
+            printf("%d refused %d\n", piece, vikelodu_number(answer));
+            return 1;
+        }
+        printf("%d committed\n", piece);
+    }
+    return 0;
+}
+
+int main(void) { return one_by_one() || as_a_job() || look_first(); }

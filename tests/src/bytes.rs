@@ -4,6 +4,8 @@
 //! buffers. There a buffer may be passed as bytes, two to a word, low byte
 //! first; an odd last byte is no part of it and stays."
 //!
+//! Ask and commit of S-2 are calls beside place and take bytes as it does.
+//!
 //! A sheet is bytes by its own definition, so every byte of it counts.
 
 use crate::figures::{Position, Refusal, Totals};
@@ -36,6 +38,31 @@ pub fn place_bytes(
 ) -> Result<Position, Refusal> {
     let (mut strip_words, mut work_words) = (words(strip), words(work));
     let answer = crate::place(&mut strip_words, &words(outline), mask, &mut work_words);
+    put_back(strip, &strip_words);
+    put_back(work, &work_words);
+    answer
+}
+
+pub fn ask_bytes(
+    strip: &[u8],
+    outline: &[u8],
+    mask: u16,
+    work: &mut [u8],
+) -> Result<Position, Refusal> {
+    let mut work_words = words(work);
+    let answer = crate::ask(&words(strip), &words(outline), mask, &mut work_words);
+    put_back(work, &work_words);
+    answer
+}
+
+pub fn commit_bytes(
+    strip: &mut [u8],
+    outline: &[u8],
+    position: Position,
+    work: &mut [u8],
+) -> Result<(), Refusal> {
+    let (mut strip_words, mut work_words) = (words(strip), words(work));
+    let answer = crate::commit(&mut strip_words, &words(outline), position, &mut work_words);
     put_back(strip, &strip_words);
     put_back(work, &work_words);
     answer

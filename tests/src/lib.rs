@@ -1,5 +1,5 @@
 //! A reference program for document 01, the box-board nesting engine, as change
-//! request S-1 has changed it.
+//! requests S-1 and S-2 have changed it.
 //!
 //! It is written straight from the sentences of the two papers, which are quoted
 //! above the functions that state them, and it prefers the plain way to the
@@ -13,6 +13,7 @@
 //!
 //! Module [`generate`] makes inputs of every kind, good and bad, from a seed.
 
+pub mod asking;
 pub mod bytes;
 pub mod cells;
 pub mod figures;
@@ -27,6 +28,7 @@ pub mod sheet;
 pub mod strip;
 pub mod text;
 
+pub use asking::{ask, commit};
 pub use cells::{cover, runs};
 pub use figures::{Figures, Piece, Position, Refusal, Totals};
 pub use laying::{lay, lay_text};

@@ -179,26 +179,23 @@ pub fn runs_after(board: &Board, piece: &TurnedPiece, (c, y): Spot) -> Vec<Vec<S
     columns
 }
 
-// ---------------------------------------------------------------------- call
+// ----------------------------------------------------------------- questions
 
-/// "Place takes strip, outline, mask and a work buffer of words, and answers
-/// turn, column, height"
-///
-/// "place 5, 7 to 14"
-pub fn place(
-    strip: &mut [u16],
+/// "5, 7 to" 12 with these turns allowed, or with nothing where 9 has to say no,
+/// and a work buffer of so many words. The answer is the board, and the piece in
+/// each allowed turn.
+pub fn ask_5_to_12(
+    strip: &[u16],
     outline: &[u16],
-    mask: u16,
-    work: &mut [u16],
-) -> Result<Position, Refusal> {
-    // "A work buffer is zero after each call." Only its length is used here.
-    work.fill(0);
+    allowed: Option<Vec<u16>>,
+    work: usize,
+) -> Result<(Board, Vec<TurnedPiece>), Refusal> {
     // "5. Is the strip well formed?"
     if !well_formed(strip) {
         return Err(no(5, 0));
     }
     ask_7_of_lent_outline(outline)?;
-    let allowed = ask_8_to_11(outline, turns_of_mask(mask), 1)?;
+    let allowed = ask_8_to_11(outline, allowed, 1)?;
     let board = board_of(strip);
     let pieces: Vec<TurnedPiece> = allowed
         .iter()
@@ -207,23 +204,57 @@ pub fn place(
     // "12. Has the buffer (cover's output, else the work buffer) three words
     // for each run of the allowed turn that has most runs?"
     let most_runs = pieces.iter().map(|piece| piece.runs.len()).max();
-    if work.len() < 3 * most_runs.unwrap_or(0) {
+    if work < 3 * most_runs.unwrap_or(0) {
         return Err(no(12, 1));
     }
+    Ok((board, pieces))
+}
+
+/// "14. Are the strip's runs after placing at most Q?"
+pub fn ask_14(strip: &[u16], columns_after: &[Vec<Stretch>]) -> Result<(), Refusal> {
+    let q = (strip.len() - 4 - columns_after.len()) / 4;
+    if columns_after.iter().map(Vec::len).sum::<usize>() > q {
+        return Err(no(14, 1));
+    }
+    Ok(())
+}
+
+/// "place 5, 7 to 14": the best position, and the runs of each column with the
+/// piece there. The strip is only read: by S-2 ask asks the same.
+pub fn find(
+    strip: &[u16],
+    outline: &[u16],
+    mask: u16,
+    work: usize,
+) -> Result<(Position, Vec<Vec<Stretch>>), Refusal> {
+    let (board, pieces) = ask_5_to_12(strip, outline, turns_of_mask(mask), work)?;
     // "13. Is there a free position?"
     let Some((piece, spot)) = best(&board, &pieces, least_free) else {
         return Err(no(13, 1));
     };
-    // "14. Are the strip's runs after placing at most Q?"
     let columns = runs_after(&board, piece, spot);
-    let q = (strip.len() - 4 - board.n as usize) / 4;
-    if columns.iter().map(Vec::len).sum::<usize>() > q {
-        return Err(no(14, 1));
-    }
-    put_runs(strip, strip[0], strip[1], strip[2], &columns);
-    Ok(Position {
+    ask_14(strip, &columns)?;
+    let position = Position {
         turn: piece.turn,
         column: spot.0 as u16,
         height: spot.1 as u16,
-    })
+    };
+    Ok((position, columns))
+}
+
+// ---------------------------------------------------------------------- call
+
+/// "Place takes strip, outline, mask and a work buffer of words, and answers
+/// turn, column, height"
+pub fn place(
+    strip: &mut [u16],
+    outline: &[u16],
+    mask: u16,
+    work: &mut [u16],
+) -> Result<Position, Refusal> {
+    // "A work buffer is zero after each call." Only its length is used here.
+    work.fill(0);
+    let (position, columns) = find(strip, outline, mask, work.len())?;
+    put_runs(strip, strip[0], strip[1], strip[2], &columns);
+    Ok(position)
 }

@@ -49,7 +49,8 @@ pub fn turns_of_mask(mask: u16) -> Option<Vec<u16>> {
     )
 }
 
-/// Cover's one turn is its allowed turn. Nothing for a turn above 3.
+/// The one turn of a cover or commit call is its allowed turn. Nothing for a turn
+/// above 3.
 pub fn turns_of_turn(turn: u16) -> Option<Vec<u16>> {
     if turn > MOST_TURN {
         return None;

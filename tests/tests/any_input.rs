@@ -3,6 +3,7 @@
 
 mod common;
 use common::*;
+use reference::figures::NUMBERS;
 use reference::generate::*;
 
 /// Words most of which are small, so that chains and counts often make sense.
@@ -78,7 +79,7 @@ fn any_sheet(random: &mut Random) -> Vec<u8> {
 }
 
 /// Asserts that each of these numbers, 0 for granted, came up.
-fn all_came_up(numbers: &[usize; 18], expected: &[usize]) {
+fn all_came_up(numbers: &[usize; NUMBERS], expected: &[usize]) {
     for (number, &times) in numbers.iter().enumerate() {
         assert_eq!(
             times > 0,
@@ -97,7 +98,7 @@ fn number<T>(answer: &Result<T, reference::Refusal>) -> usize {
 
 #[test]
 fn cover_on_any_input() {
-    let mut numbers = [0; 18];
+    let mut numbers = [0; NUMBERS];
     for seed in 0..4_000 {
         let mut random = Random::new(seed);
         let outline = some_outline(&mut random);
@@ -110,7 +111,7 @@ fn cover_on_any_input() {
 
 #[test]
 fn open_on_any_input() {
-    let mut numbers = [0; 18];
+    let mut numbers = [0; NUMBERS];
     for seed in 0..2_000 {
         let mut random = Random::new(seed);
         let of = any_figures(&mut random);
@@ -126,7 +127,7 @@ fn open_on_any_input() {
 
 #[test]
 fn place_on_any_input() {
-    let mut numbers = [0; 18];
+    let mut numbers = [0; NUMBERS];
     for seed in 0..10_000 {
         let mut random = Random::new(seed);
         let mut strip = any_strip(&mut random);
@@ -139,9 +140,26 @@ fn place_on_any_input() {
     all_came_up(&numbers, &[0, 5, 7, 8, 9, 10, 11, 12, 13, 14]);
 }
 
+/// (Ask is asked beside each place call: see `check_place`.)
+#[test]
+fn commit_on_any_input() {
+    let mut numbers = [0; NUMBERS];
+    for seed in 0..20_000 {
+        let mut random = Random::new(seed);
+        let mut strip = any_strip(&mut random);
+        let outline = some_outline(&mut random);
+        let kind = random.pick(&CommitKind::ALL);
+        let position = commit_position(&mut random, kind, &strip, &outline);
+        let length = random.index(150);
+        let answer = check_commit(&mut strip, &outline, position, length);
+        numbers[number(&answer)] += 1;
+    }
+    all_came_up(&numbers, &[0, 5, 7, 8, 9, 10, 11, 12, 18, 14]);
+}
+
 #[test]
 fn read_and_lay_on_any_input() {
-    let (mut read, mut laid) = ([0; 18], [0; 18]);
+    let (mut read, mut laid) = ([0; NUMBERS], [0; NUMBERS]);
     for seed in 0..6_000 {
         let mut random = Random::new(seed);
         let sheet = any_sheet(&mut random);
@@ -163,7 +181,7 @@ fn read_and_lay_on_any_input() {
 
 #[test]
 fn write_on_any_input() {
-    let mut numbers = [0; 18];
+    let mut numbers = [0; NUMBERS];
     for seed in 0..6_000 {
         let mut random = Random::new(seed);
         let words = match random.index(4) {
@@ -191,6 +209,8 @@ fn empty_buffers() {
     assert_eq!(check_cover(&[], 0, 1, 0), Err(no(7, 1)));
     assert_eq!(check_open(1, 1, 1, 0), Err(no(4, 0)));
     assert_eq!(check_place(&mut [], &[], 0, 0), Err(no(5, 0)));
+    assert_eq!(check_ask(&[], &[], 0, 0), Err(no(5, 0)));
+    assert_eq!(check_commit(&mut [], &[], at(0, 0, 0), 0), Err(no(5, 0)));
     assert_eq!(check_read(&[], 0), Err(no(1, 0)));
     assert_eq!(check_write((1, 1, 1), &[], 0), Err(no(6, 0)));
     assert_eq!(check_lay(&[], [0, 0, 0]), Err(no(1, 0)));

@@ -1,9 +1,9 @@
-//! Open, place and lay on bytes: "two to a word, low byte first; an odd last byte is
-//! no part of it and stays."
+//! Open, place, ask, commit and lay on bytes: "two to a word, low byte first; an odd
+//! last byte is no part of it and stays."
 
 mod common;
 use common::*;
-use reference::bytes::{lay_bytes, open_bytes, place_bytes};
+use reference::bytes::{ask_bytes, commit_bytes, lay_bytes, open_bytes, place_bytes};
 use reference::Totals;
 
 const ODD: u8 = 0xEE;
@@ -49,6 +49,35 @@ fn three_squares() {
     let after = other_words(13)[12];
     assert_eq!(output, bytes(&[entries, vec![after]].concat()));
     assert_eq!(work, bytes(&[0; 6]));
+}
+
+#[test]
+fn three_squares_in_two_steps() {
+    let mut strip = bytes(&opened(10, 2, 10, 4));
+    let mut words = opened(10, 2, 10, 4);
+    for position in [at(0, 0, 0), at(0, 0, 4), at(0, 2, 0)] {
+        let before = strip.clone();
+        let mut work = bytes(&other_words(6));
+        let answer = ask_bytes(&strip, &bytes(&S), 1, &mut work);
+        assert_eq!((answer, &strip), (Ok(position), &before));
+        assert_eq!(work, bytes(&[0; 6]));
+        let mut work = bytes(&other_words(6));
+        let answer = commit_bytes(&mut strip, &bytes(&S), position, &mut work);
+        assert_eq!(answer, Ok(()));
+        assert_eq!(work, bytes(&[0; 6]));
+        assert_eq!(check_commit(&mut words, &S, position, 6), Ok(()));
+        assert_eq!(strip, bytes(&words));
+    }
+    // With a byte less the work buffer has five words.
+    let mut work = bytes(&other_words(6));
+    let third = at(0, 4, 0);
+    let answer = ask_bytes(&strip, &bytes(&S), 1, &mut work[..11]);
+    assert_eq!(answer, Err(no(12, 1)));
+    let answer = commit_bytes(&mut strip, &bytes(&S), third, &mut work[..11]);
+    assert_eq!(answer, Err(no(12, 1)));
+    let answer = commit_bytes(&mut strip, &bytes(&S), third, &mut work);
+    assert_eq!(answer, Err(no(14, 1)));
+    assert_eq!(strip, bytes(&words));
 }
 
 /// Strip and output keep their bytes; the work buffer is cleared all the same.

@@ -2,10 +2,13 @@
 
 mod common;
 use common::*;
+use reference::asking::is_on_strip;
 use reference::cells::runs_of;
+use reference::figures::NUMBERS;
 use reference::generate::outlines::is_sound;
 use reference::generate::*;
 use reference::outline::{extent, some_edges_change_order, turned, vertices};
+use reference::placing::{board_of, is_free_plain, turned_piece};
 use reference::well_formed;
 use std::collections::HashSet;
 
@@ -41,6 +44,8 @@ fn each_kind_is_listed_once() {
     assert_eq!(names(&damages), ListDamage::ALL.len());
     let damages = SheetDamage::ALL.map(|damage| format!("{damage:?}"));
     assert_eq!(names(&damages), SheetDamage::ALL.len());
+    let kinds = CommitKind::ALL.map(|kind| format!("{kind:?}"));
+    assert_eq!(names(&kinds), CommitKind::ALL.len());
 }
 
 #[test]
@@ -222,7 +227,7 @@ fn damages_of_the_leading_words_are_the_only_ones() {
 
 #[test]
 fn figures_in_and_out_of_limits() {
-    let mut numbers = [0; 18];
+    let mut numbers = [0; NUMBERS];
     for seed in 0..500 {
         let mut random = Random::new(seed);
         let of = any_figures(&mut random);
@@ -308,4 +313,103 @@ fn sheets_filled_up() {
         assert_eq!(plan.bytes().len(), 65_536);
         assert_eq!(check_read(&plan.bytes(), 9_000), before);
     }
+}
+
+/// Positions of commits are of their kind, where the strip has such.
+#[test]
+fn commits_are_of_their_kind() {
+    // Of the kinds Free and Taken: how often there was such a position.
+    let mut found = [0; 2];
+    for seed in 0..1_000 {
+        let mut random = Random::new(seed);
+        let strip = sound_strip(&mut random);
+        let board = board_of(&strip);
+        let size = random.word(2, 5);
+        let outline = sound_outline(&mut random, 15, size);
+        for kind in CommitKind::ALL {
+            let position = commit_position(&mut random, kind, &strip, &outline);
+            if kind != CommitKind::Anywhere {
+                assert_eq!(position.turn > 3, kind == CommitKind::WrongTurn);
+            }
+            let piece = turned_piece(&outline, position.turn % 4, board.r);
+            let (c, y) = (i64::from(position.column), i64::from(position.height));
+            let on_strip = |spot| is_on_strip(&board, &piece, spot);
+            let is_free = on_strip((c, y)) && is_free_plain(&board, &piece, (c, y));
+            match kind {
+                CommitKind::Free => found[0] += usize::from(is_free),
+                CommitKind::Taken => found[1] += usize::from(on_strip((c, y)) && !is_free),
+                CommitKind::Corner => {
+                    assert!(!on_strip((c + 1, y)) && !on_strip((c, y + 1)));
+                    assert_eq!(on_strip((c, y)), on_strip((0, 0)));
+                }
+                CommitKind::PastEnd => {
+                    assert!(!on_strip((c, y)));
+                    assert!(c == 0 || on_strip((c - 1, 0)) || !on_strip((0, 0)));
+                }
+                CommitKind::PastTop => {
+                    assert!(!on_strip((c, y)));
+                    assert!(y == 0 || on_strip((0, y - 1)) || !on_strip((0, 0)));
+                }
+                CommitKind::FarColumn => assert_eq!(c, 65_535),
+                CommitKind::FarHeight => assert_eq!(y, 65_535),
+                CommitKind::FarBoth => assert_eq!((c, y), (65_535, 65_535)),
+                CommitKind::WrongTurn | CommitKind::Anywhere => {}
+            }
+        }
+    }
+    println!("free {}, taken {} of 1,000", found[0], found[1]);
+    assert!(found.iter().all(|&times| times > 250), "{found:?}");
+    // A strip that is ill formed has positions, too.
+    for seed in 0..300 {
+        let mut random = Random::new(seed);
+        let damage = random.pick(&Damage::ALL);
+        let strip = damaged_strip(&mut random, damage);
+        for kind in CommitKind::ALL {
+            let outline = any_outline(&mut random);
+            commit_position(&mut random, kind, &strip, &outline);
+        }
+    }
+}
+
+/// A mixed list has all three calls, with work buffers that are just enough and too
+/// small, and commits at the last answer and at older ones, with the same outline.
+/// (Each number is in asking.rs.)
+#[test]
+fn mixed_lists_are_mixed() {
+    let (mut kinds, mut works, mut answers) = ([0; 3], [0; 3], [0; 3]);
+    for seed in 0..300 {
+        let mut random = Random::new(seed);
+        let strip = opened(20, 2, 12, 100);
+        let mut list = MixedList::new(&mut random, 7);
+        let mut found: Vec<(Vec<u16>, reference::Position)> = Vec::new();
+        for _ in 0..20 {
+            match list.next_call(&mut random, &strip) {
+                Call::Place(_) => kinds[0] += 1,
+                Call::Ask(call) => {
+                    kinds[1] += 1;
+                    if let Ok(position) = check_ask(&strip, &call.outline, call.mask, call.work) {
+                        list.found(&call, position);
+                        found.push((call.outline, position));
+                    }
+                }
+                Call::Commit(call) => {
+                    kinds[2] += 1;
+                    let is_at = |(outline, position): &(Vec<u16>, _)| {
+                        *outline == call.outline && *position == call.position
+                    };
+                    let place = found.iter().rev().position(is_at);
+                    answers[place.map_or(2, |place| place.min(1))] += 1;
+                    if is_sound(&call.outline, 15) && call.position.turn <= 3 {
+                        let runs = reference::runs(&call.outline, call.position.turn, 2);
+                        works[(call.work + 1).saturating_sub(3 * runs.len()).min(2)] += 1;
+                    }
+                }
+            }
+        }
+    }
+    println!("place, ask, commit {kinds:?}; one short or less, enough, more: {works:?}");
+    println!("at the last answer, at an older one, elsewhere: {answers:?}");
+    assert!(kinds.iter().all(|&times| times > 500), "{kinds:?}");
+    assert!(works.iter().all(|&times| times > 200), "{works:?}");
+    assert!(answers.iter().all(|&times| times > 80), "{answers:?}");
 }

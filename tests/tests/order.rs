@@ -1,7 +1,7 @@
 //! Where several questions say no, the first in the call's order answers.
 //!
 //! "Order: rising, 7 to 11 piece by piece", but S-1: 16 and 17 "both directly
-//! after 3 wherever 3 is asked".
+//! after 3 wherever 3 is asked", and S-2: 18 in a commit "asked instead of 13".
 
 mod common;
 use common::*;
@@ -86,6 +86,41 @@ fn place_in_order() {
     assert_eq!(check_place(&mut good, &S, 1, 6), Err(no(13, 1)));
     let mut strip = opened(4, 2, 10, 1);
     assert_eq!(check_place(&mut strip, &S, 1, 6), Err(no(14, 1)));
+}
+
+/// Each question says no together with those after it.
+#[test]
+fn commit_in_order() {
+    let mut good = opened(3, 2, 10, 1);
+    let mut bad = good.clone();
+    bad[0] = 0;
+    let far = at(4, 65_535, 65_535);
+    assert_eq!(check_commit(&mut bad, &FAR[..5], far, 0), Err(no(5, 0)));
+    assert_eq!(check_commit(&mut bad, &S, at(0, 0, 0), 90), Err(no(5, 0)));
+    assert_eq!(check_commit(&mut good, &FAR[..5], far, 0), Err(no(7, 1)));
+    assert_eq!(check_commit(&mut good, &CROSSED_FAR, far, 0), Err(no(8, 1)));
+    assert_eq!(
+        check_commit(&mut good, &CROSSED_TWICE, far, 0),
+        Err(no(9, 1))
+    );
+    let far = at(0, 65_535, 65_535);
+    assert_eq!(
+        check_commit(&mut good, &CROSSED_TWICE, far, 0),
+        Err(no(10, 1))
+    );
+    assert_eq!(check_commit(&mut good, &FLAT, far, 0), Err(no(11, 1)));
+    assert_eq!(check_commit(&mut good, &S, far, 0), Err(no(12, 1)));
+    // S is higher than the strip and has too many runs for it, too.
+    assert_eq!(check_commit(&mut good, &S, at(0, 0, 0), 5), Err(no(12, 1)));
+    assert_eq!(check_commit(&mut good, &S, at(0, 0, 0), 6), Err(no(18, 0)));
+    let mut strip = opened(4, 2, 10, 1);
+    assert_eq!(check_commit(&mut strip, &S, at(0, 9, 0), 6), Err(no(18, 0)));
+    assert_eq!(check_commit(&mut strip, &S, at(0, 0, 1), 6), Err(no(18, 0)));
+    assert_eq!(check_commit(&mut strip, &S, at(0, 0, 0), 6), Err(no(14, 1)));
+    // A full strip, on which the piece is not free.
+    let mut full = strip_of(8, 2, 1, &[&[(0, 1)], &[], &[]]);
+    assert_eq!(check_commit(&mut full, &S, at(0, 0, 0), 6), Err(no(18, 0)));
+    assert_eq!(check_commit(&mut full, &S, at(0, 0, 2), 6), Err(no(14, 1)));
 }
 
 #[test]

@@ -1,113 +1,15 @@
 //! Placing: demand 3 over lists of place calls, and single place calls on any
-//! well-formed strip, against a plain search over cells written out here.
+//! well-formed strip, against the plain search over cells of the tests.
 
 mod common;
+use common::cells::*;
 use common::*;
-use reference::cells::covered_plain;
 use reference::generate::outlines::is_sound;
 use reference::generate::{
     place_calls, random_runs, sound_mask, sound_outline, strip_with, Random, StripFigures,
 };
-use reference::outline::{extent, turned, vertices};
 use reference::placing::{best, board_of, least_free, least_free_plain, turned_piece};
-use reference::{strip_runs, Position};
-use std::collections::BTreeSet;
-
-type Cells = BTreeSet<(i64, i64)>;
-
-/// The covered cells of an outline in a turn, by the plain form.
-fn cells_of(outline: &[u16], turn: u16, r: i64) -> Cells {
-    let outline = turned(&vertices(outline), turn);
-    let (w, h) = extent(&outline);
-    let mut cells = Cells::new();
-    for column in 0..(w + r - 1) / r {
-        for row in 0..h {
-            if covered_plain(&outline, r, column, row) {
-                cells.insert((column, row));
-            }
-        }
-    }
-    cells
-}
-
-fn moved(cells: &Cells, c: i64, y: i64) -> Cells {
-    cells
-        .iter()
-        .map(|&(column, row)| (column + c, row + y))
-        .collect()
-}
-
-fn cells_of_strip(strip: &[u16]) -> Cells {
-    let mut cells = Cells::new();
-    for (column, runs) in strip_runs(strip).into_iter().enumerate() {
-        for (low, high) in runs {
-            cells.extend((low..high).map(|row| (column as i64, i64::from(row))));
-        }
-    }
-    cells
-}
-
-/// A cell begins a run when it is covered and the one below it is not.
-fn count_runs(cells: &Cells) -> usize {
-    cells
-        .iter()
-        .filter(|&&(column, row)| !cells.contains(&(column, row - 1)))
-        .count()
-}
-
-/// What a place call answers whose outline passes 7 to 11: the position, or 12,
-/// 13 or 14. All positions of all allowed turns are tried, and the least
-/// (last column, top, turn) of the free ones is taken.
-fn expected(
-    occupied: &Cells,
-    figures: StripFigures,
-    outline: &[u16],
-    mask: u16,
-    work: usize,
-) -> Result<Position, u16> {
-    let (w, r, n) = (
-        i64::from(figures.w),
-        i64::from(figures.r),
-        i64::from(figures.n),
-    );
-    let mut most_runs = 0;
-    let mut found: Option<((i64, i64, u16), Position, Cells)> = None;
-    for turn in (0..4).filter(|turn| mask & (1 << turn) != 0) {
-        let cells = cells_of(outline, turn, r);
-        most_runs = most_runs.max(count_runs(&cells));
-        let (pw, ph) = extent(&turned(&vertices(outline), turn));
-        let wide = (pw + r - 1) / r;
-        for c in 0..=n - wide {
-            for y in 0..=w - ph {
-                let cells = moved(&cells, c, y);
-                let key = (c + wide - 1, y + ph, turn);
-                let better = found.as_ref().is_none_or(|least| key < least.0);
-                if better && cells.is_disjoint(occupied) {
-                    found = Some((key, at(turn, c as u16, y as u16), cells));
-                }
-            }
-        }
-    }
-    if work < 3 * most_runs {
-        return Err(12);
-    }
-    let Some((_, position, cells)) = found else {
-        return Err(13);
-    };
-    if count_runs(&(occupied | &cells)) > figures.q {
-        return Err(14);
-    }
-    Ok(position)
-}
-
-fn small_strip(random: &mut Random) -> StripFigures {
-    StripFigures {
-        w: random.word(1, 14),
-        r: random.word(1, 4),
-        n: random.word(1, 9),
-        q: random.between(1, 30) as usize,
-    }
-}
+use reference::strip_runs;
 
 /// "All of demand 3 is one claim about the whole list": what is placed is told
 /// by the calls alone.

@@ -5,11 +5,15 @@
 //! 14 only as a piece's fate." Changed by S-1: "Number 3 now means the width
 //! only. Cover asks only about the resolution. New numbers: 16 when the
 //! resolution is outside its limits, then 17 when the column count is, both
-//! directly after 3 wherever 3 is asked."
+//! directly after 3 wherever 3 is asked." By S-2 ask asks what place does, and
+//! commit "what place asks with that turn alone allowed", with 18 "when a commit's
+//! position is off the strip or not free, asked instead of 13, which no commit
+//! answers".
 //!
 //! The ordinal is "0 for questions 1 to 6 and 15, for the size in write [...],
-//! else the piece's place in chain or list, 1 where one outline is lent". Like 3,
-//! 16 and 17 are about no piece: 0.
+//! else the piece's place in chain or list, 1 where one outline is lent". For 16,
+//! 17 and 18 it is 0: "0 [...] for each number above 15 unless its request gives an
+//! ordinal".
 
 mod common;
 use common::*;
@@ -223,6 +227,181 @@ fn place_14() {
     assert_eq!(check_place(&mut strip, &S, 1, 90), Err(no(14, 1)));
     let mut strip = opened(10, 2, 10, 2);
     assert_eq!(check_place(&mut strip, &S, 1, 90), Ok(at(0, 0, 0)));
+}
+
+// ----------------------------------------------------------------------- ask
+
+/// Ask with each number. (In all of these tests it is compared with place, too: see
+/// `check_place`.)
+#[test]
+fn ask_5_and_7_to_14() {
+    let strip = opened(10, 2, 10, 2);
+    let mut bad = strip.clone();
+    bad[4] = 3;
+    assert_eq!(check_ask(&bad, &S, 1, 6), Err(no(5, 0)));
+    assert_eq!(check_ask(&[], &S, 1, 6), Err(no(5, 0)));
+    assert_eq!(check_ask(&strip, &S, 1, 6), Ok(at(0, 0, 0)));
+    for outline in wrong_lengths() {
+        assert_eq!(check_ask(&strip, &outline, 1, 90), Err(no(7, 1)));
+    }
+    assert_eq!(check_ask(&strip, &FAR, 1, 90), Err(no(8, 1)));
+    for mask in BAD_MASKS {
+        assert_eq!(check_ask(&strip, &S, mask, 90), Err(no(9, 1)));
+    }
+    assert_eq!(check_ask(&strip, &CROSSED, 3, 90), Err(no(10, 1)));
+    assert_eq!(check_ask(&strip, &CROSSED, 2, 90), Ok(at(1, 0, 0)));
+    assert_eq!(check_ask(&strip, &FLAT, 1, 90), Err(no(11, 1)));
+    assert_eq!(check_ask(&strip, &S, 1, 5), Err(no(12, 1)));
+    assert_eq!(check_ask(&strip, &rectangle(2, 11), 1, 90), Err(no(13, 1)));
+    assert_eq!(check_ask(&strip, &rectangle(6, 2), 1, 90), Err(no(14, 1)));
+    assert_eq!(check_ask(&strip, &rectangle(6, 2), 3, 90), Ok(at(1, 0, 0)));
+}
+
+// -------------------------------------------------------------------- commit
+
+#[test]
+fn commit_5() {
+    let mut strip = opened(10, 2, 10, 6);
+    strip[4] = 7;
+    assert_eq!(check_commit(&mut strip, &S, at(0, 0, 0), 90), Err(no(5, 0)));
+    assert_eq!(check_commit(&mut [], &S, at(0, 0, 0), 90), Err(no(5, 0)));
+    strip[4] = 0;
+    assert_eq!(check_commit(&mut strip, &S, at(0, 0, 0), 90), Ok(()));
+}
+
+#[test]
+fn commit_7() {
+    let mut strip = opened(10, 2, 16, 40);
+    for outline in wrong_lengths() {
+        let answer = check_commit(&mut strip, &outline, at(0, 0, 0), 90);
+        assert_eq!(answer, Err(no(7, 1)));
+    }
+    assert_eq!(check_commit(&mut strip, &T, at(0, 0, 1), 90), Ok(()));
+    let most = sixty_four_vertices();
+    assert_eq!(check_commit(&mut strip, &most, at(0, 0, 0), 90), Ok(()));
+}
+
+#[test]
+fn commit_8() {
+    let mut strip = opened(10, 2, 10, 6);
+    for word in 0..8 {
+        let mut outline = S;
+        outline[word] = 16_001;
+        let answer = check_commit(&mut strip, &outline, at(0, 0, 0), 90);
+        assert_eq!(answer, Err(no(8, 1)));
+    }
+    let outline = [15_990, 0, 16_000, 0, 16_000, 4];
+    assert_eq!(check_commit(&mut strip, &outline, at(0, 0, 0), 90), Ok(()));
+}
+
+#[test]
+fn commit_9() {
+    let mut strip = opened(10, 2, 10, 40);
+    for turn in [4, 5, 8, 15, 16, 256, 65_532, 65_535] {
+        let answer = check_commit(&mut strip, &S, at(turn, 0, 0), 90);
+        assert_eq!(answer, Err(no(9, 1)), "{turn}");
+    }
+    for turn in 0..=3 {
+        let answer = check_commit(&mut strip, &S, at(turn, 2 * turn, 0), 90);
+        assert_eq!(answer, Ok(()), "{turn}");
+    }
+}
+
+/// With "that turn alone allowed".
+#[test]
+fn commit_10() {
+    let mut strip = opened(10, 2, 10, 6);
+    for turn in [0, 2] {
+        let answer = check_commit(&mut strip, &CROSSED, at(turn, turn, 0), 90);
+        assert_eq!(answer, Err(no(10, 1)));
+    }
+    for turn in [1, 3] {
+        let answer = check_commit(&mut strip, &CROSSED, at(turn, turn, 0), 90);
+        assert_eq!(answer, Ok(()));
+    }
+}
+
+#[test]
+fn commit_11() {
+    let mut strip = opened(10, 2, 10, 6);
+    for turn in 0..=3 {
+        let answer = check_commit(&mut strip, &FLAT, at(turn, 0, 0), 90);
+        assert_eq!(answer, Err(no(11, 1)));
+    }
+}
+
+/// 6 by 2 has three runs in turns 0 and 2, one in 1 and 3.
+#[test]
+fn commit_12() {
+    let bar = rectangle(6, 2);
+    for (turn, needed) in [(0, 9), (1, 3), (2, 9), (3, 3)] {
+        let mut strip = opened(10, 2, 10, 6);
+        for words in 0..needed {
+            let answer = check_commit(&mut strip, &bar, at(turn, 0, 0), words);
+            assert_eq!(answer, Err(no(12, 1)), "{turn} {words}");
+        }
+        assert_eq!(check_ask(&strip, &bar, 15, needed).is_ok(), needed == 9);
+        let answer = check_commit(&mut strip, &bar, at(turn, 0, 0), needed);
+        assert_eq!(answer, Ok(()), "{turn}");
+    }
+}
+
+/// S is two columns wide and four rows high.
+#[test]
+fn commit_18() {
+    let mut strip = opened(10, 2, 10, 40);
+    let off = [
+        (9, 0),
+        (10, 0),
+        (0, 7),
+        (0, 10),
+        (9, 7),
+        (65_535, 0),
+        (65_534, 0),
+        (0, 65_535),
+        (0, 65_532),
+        (65_535, 65_535),
+    ];
+    for (column, height) in off {
+        for turn in 0..=3 {
+            let answer = check_commit(&mut strip, &S, at(turn, column, height), 6);
+            assert_eq!(answer, Err(no(18, 0)), "{column} {height}");
+        }
+    }
+    assert_eq!(check_commit(&mut strip, &S, at(0, 8, 6), 6), Ok(()));
+    assert_eq!(check_commit(&mut strip, &S, at(0, 4, 3), 6), Ok(()));
+    // One cell in common, then none.
+    for (column, height) in [(4, 3), (3, 0), (3, 6), (5, 0), (5, 6), (8, 6), (7, 3)] {
+        let answer = check_commit(&mut strip, &S, at(0, column, height), 6);
+        assert_eq!(answer, Err(no(18, 0)), "{column} {height}");
+    }
+    for (column, height) in [(2, 0), (6, 6), (6, 2), (8, 2)] {
+        let answer = check_commit(&mut strip, &S, at(0, column, height), 6);
+        assert_eq!(answer, Ok(()), "{column} {height}");
+    }
+}
+
+/// A strip with no position for S at all: 18, and never 13.
+#[test]
+fn commit_never_13() {
+    let mut strip = opened(3, 2, 3, 40);
+    assert_eq!(check_ask(&strip, &S, 15, 6), Err(no(13, 1)));
+    for turn in 0..=3 {
+        let answer = check_commit(&mut strip, &S, at(turn, 0, 0), 6);
+        assert_eq!(answer, Err(no(18, 0)));
+    }
+}
+
+#[test]
+fn commit_14() {
+    let mut strip = opened(10, 2, 10, 1);
+    assert_eq!(check_commit(&mut strip, &S, at(0, 0, 0), 6), Err(no(14, 1)));
+    let mut strip = opened(10, 2, 10, 2);
+    assert_eq!(check_commit(&mut strip, &S, at(0, 3, 1), 6), Ok(()));
+    // Two runs more beside it, none more where it touches.
+    assert_eq!(check_commit(&mut strip, &S, at(0, 6, 1), 6), Err(no(14, 1)));
+    assert_eq!(check_commit(&mut strip, &S, at(0, 3, 6), 6), Err(no(14, 1)));
+    assert_eq!(check_commit(&mut strip, &S, at(0, 3, 5), 6), Ok(()));
 }
 
 // ---------------------------------------------------------------------- read

@@ -1,4 +1,4 @@
-//! The places of document 01 that are easily read in another way. Each name
+//! The places of documents 01 and 02 that are easily read in another way. Each name
 //! begins with the place's label in the list of readings.
 
 mod common;
@@ -536,4 +536,107 @@ fn g6_long_and_empty_input() {
         long[1] = 0;
         assert_eq!(lay_text(&long), "job refused 1 0\n", "{longer}");
     }
+}
+
+// ------------------------------------------------------------- ask and commit
+
+/// 18 carries 0, although one outline is lent and 13 carries 1.
+#[test]
+fn r0_1_ordinals_above_15() {
+    let mut strip = opened(3, 2, 10, 6);
+    assert_eq!(check_ask(&strip, &S, 1, 6), Err(no(13, 1)));
+    assert_eq!(check_commit(&mut strip, &S, at(0, 0, 0), 6), Err(no(18, 0)));
+}
+
+/// 12 counts the runs of the commit's own turn, so it passes where ask and place
+/// with more turns get 12. 10 is of its own turn, too.
+#[test]
+fn r2_2_questions_of_its_own_turn() {
+    let bar = rectangle(6, 2);
+    let mut strip = opened(10, 2, 10, 6);
+    assert_eq!(check_ask(&strip, &bar, 15, 3), Err(no(12, 1)));
+    assert_eq!(check_place(&mut strip, &bar, 15, 3), Err(no(12, 1)));
+    assert_eq!(
+        check_commit(&mut strip, &bar, at(0, 0, 0), 3),
+        Err(no(12, 1))
+    );
+    assert_eq!(check_commit(&mut strip, &bar, at(1, 0, 0), 3), Ok(()));
+    assert_eq!(check_ask(&strip, &CROSSED, 15, 90), Err(no(10, 1)));
+    assert_eq!(check_commit(&mut strip, &CROSSED, at(3, 5, 0), 90), Ok(()));
+    // The turn is asked after the coordinates.
+    let answer = check_commit(&mut strip, &FAR, at(4, 0, 0), 90);
+    assert_eq!(answer, Err(no(8, 1)));
+    assert_eq!(
+        check_commit(&mut strip, &FLAT, at(4, 0, 0), 90),
+        Err(no(9, 1))
+    );
+}
+
+/// Where 16 bits wrap, column 65,535 of S would end in column 0 or 1, and height
+/// 65,535 in row 3.
+#[test]
+fn r2_3_nothing_wraps() {
+    for (w, r, n) in [(10, 2, 10), (16_000, 400, 4_096), (16_000, 1, 4_096)] {
+        let mut strip = opened(w, r, n, 9);
+        for far in [65_528, 65_531, 65_532, 65_534, 65_535] {
+            for position in [at(0, far, 0), at(0, 0, far), at(0, far, far)] {
+                let answer = check_commit(&mut strip, &S, position, 90);
+                assert_eq!(answer, Err(no(18, 0)), "{position:?}");
+            }
+        }
+    }
+    // Column 164 begins at 65,600 units, more than 16 bits hold.
+    let mut strip = opened(16_000, 400, 4_096, 9);
+    assert_eq!(check_commit(&mut strip, &S, at(0, 164, 0), 90), Ok(()));
+    assert_eq!(strip_runs(&strip)[164], [(0, 4)]);
+}
+
+/// "c + w/R rounded up": the last column need not be filled. Height by the extent
+/// alone, spur or not.
+#[test]
+fn r2_3_off_the_strip_by_the_extent() {
+    let mut strip = opened(2, 2, 4, 6);
+    // SPUR is three columns wide, with cells in the first only.
+    assert_eq!(
+        check_commit(&mut strip, &SPUR, at(0, 2, 0), 3),
+        Err(no(18, 0))
+    );
+    assert_eq!(
+        check_commit(&mut strip, &SPUR, at(0, 1, 1), 3),
+        Err(no(18, 0))
+    );
+    assert_eq!(check_commit(&mut strip, &SPUR, at(0, 1, 0), 3), Ok(()));
+    // 3 wide is two columns of 2.
+    let narrow = rectangle(3, 2);
+    assert_eq!(
+        check_commit(&mut strip, &narrow, at(0, 3, 0), 6),
+        Err(no(18, 0))
+    );
+    assert_eq!(check_commit(&mut strip, &narrow, at(0, 2, 0), 6), Ok(()));
+}
+
+/// "asks and refused calls may lie between", and the commit is best and granted. It
+/// can only be refused for a smaller work buffer.
+#[test]
+fn r2_6_what_may_lie_between() {
+    let mut strip = opened(10, 2, 10, 6);
+    let bar = rectangle(6, 2);
+    let found = check_ask(&strip, &bar, 15, 9).expect("there is room");
+    assert_eq!(found, at(1, 0, 0));
+    assert_eq!(check_ask(&strip, &S, 1, 6), Ok(at(0, 0, 0)));
+    assert_eq!(check_place(&mut strip, &FLAT, 1, 6), Err(no(11, 1)));
+    assert_eq!(
+        check_place(&mut strip, &rectangle(2, 11), 1, 6),
+        Err(no(13, 1))
+    );
+    assert_eq!(check_commit(&mut strip, &S, at(0, 9, 0), 6), Err(no(18, 0)));
+    assert_eq!(check_commit(&mut strip, &bar, found, 2), Err(no(12, 1)));
+    assert_eq!(check_commit(&mut strip, &bar, found, 3), Ok(()));
+    // The other ask's answer is taken now.
+    assert_eq!(check_commit(&mut strip, &S, at(0, 0, 0), 6), Err(no(18, 0)));
+    // After a change it may be granted, and need not be best.
+    let found = check_ask(&strip, &S, 1, 6).expect("there is room");
+    assert_eq!(found, at(0, 0, 6));
+    assert_eq!(check_commit(&mut strip, &S, at(0, 4, 0), 6), Ok(()));
+    assert_eq!(check_commit(&mut strip, &S, found, 6), Ok(()));
 }

@@ -23,10 +23,10 @@ use Rattle.laws.proofs.Walks.{chain-few}
 use Rattle.laws.proofs.Entries.{length-entriesFrom, length-entriesWords}
 use Rattle.sheets.proofs.Asking.{asked, some-none}
 use Rattle.sheets.proofs.Answers.{said, not-refused}
-use Rattle.bytecalls.proofs.Asks.{ask-same, said-same}
-use Rattle.bytecalls.proofs.Caps.{Capped, uncapped, room-same}
-use Rattle.bytecalls.proofs.Strips.{short, length-same}
-use Rattle.bytecalls.proofs.Work.{entries-same, held-same}
+use Rattle.byteput.proofs.Asks.{ask-same, said-same}
+use Rattle.byteput.proofs.Caps.{Capped, uncapped, room-same}
+use Rattle.byteput.proofs.Strips.{short, length-same}
+use Rattle.byteput.proofs.Work.{entries-same, held-same}
 
 -- 4 is asked after 3, 16 and 17
 sheet-same : (b : List ℕ) {m n : ℕ} → Capped 68100 m n → sheetNo b (lengthb (sheetN b) n) ≡ sheetNo b (lengthb (sheetN b) m)

@@ -15,9 +15,9 @@ use Rattle.defs.specs.Computing.Lay.{entriesWords, layEntries, layAnswer, layOu
 use Rattle.defs.specs.Computing.Bytes.{wordsIn, wordBytes, bytesLeft, LayBytesStep}
 use Rattle.bytewords.proofs.Laws.{words-length, put-first, put-all, bytes-back}
 use Rattle.bytecalls.specs.Steps.{LaidBytes}
-use Rattle.bytecalls.proofs.Caps.{Capped, uncapped, words-capped}
-use Rattle.bytecalls.proofs.Strips.{left-short}
-use Rattle.bytecalls.proofs.Halves.{half-serves, half-cleared}
+use Rattle.byteput.proofs.Caps.{Capped, uncapped, words-capped}
+use Rattle.byteput.proofs.Strips.{left-short}
+use Rattle.byteput.proofs.Halves.{half-serves, half-cleared}
 use Rattle.bytecalls.proofs.Jobs.{lay-same, laid-fits, answer-same, output-same, leaves-same}
 
 -- entries put into the first words of an output, and the rest of it

@@ -1,10 +1,3 @@
-pub mod Asks
-pub mod Caps
-pub mod Parts
-pub mod Strips
-pub mod Work
-pub mod Halves
 pub mod Opened
-pub mod Placed
 pub mod Jobs
 pub mod Laid

@@ -11,9 +11,9 @@ use Rattle.defs.specs.Computing.Words.{limitsNo}
 use Rattle.defs.specs.Computing.Calls.{openAnswer, OpenLeaves, OpenStep}
 use Rattle.defs.specs.Computing.Bytes.{wordsIn, wordBytes, OpenBytesStep}
 use Rattle.bytewords.proofs.Laws.{words-length, put-all, bytes-back}
-use Rattle.bytecalls.proofs.Asks.{ask-same}
-use Rattle.bytecalls.proofs.Caps.{Capped, uncapped, words-capped}
-use Rattle.bytecalls.proofs.Strips.{left-short, length-same}
+use Rattle.byteput.proofs.Asks.{ask-same}
+use Rattle.byteput.proofs.Caps.{Capped, uncapped, words-capped}
+use Rattle.byteput.proofs.Strips.{left-short, length-same}
 
 open-same : (W R N : ℕ) {a b : ℕ} → Capped 68100 a b → openAnswer W R N b ≡ openAnswer W R N a
 unfolding openAnswer

@@ -1,19 +1,11 @@
--- Place and lay on buffers passed as bytes, but for the work buffer, of which only the number of words is told. Assumes nothing.
+-- Lay on buffers passed as bytes, but for the work buffer, of which only the number of words is told. Assumes nothing.
 use mathlib.Core.Path.{_≡_}
 use mathlib.Core.List.{List}
 use Prim.Native.Nat.{ℕ}
 use lib.ListN.{length}
-use Rattle.defs.specs.declared.Placing.{Placing}
 use Rattle.defs.specs.declared.Laying.{Laying}
-use Rattle.defs.specs.Computing.Calls.{placeAnswer, PlaceLeaves}
 use Rattle.defs.specs.Computing.Lay.{layAnswer, layOutput, LayLeaves}
 use Rattle.defs.specs.Computing.Bytes.{wordsIn, bytesLeft}
-
-pub record PlacedBytes (strip o : List ℕ) (mask work : ℕ) (a : Placing) (strip' : List ℕ) : Type 0 where
-  pub words : List ℕ
-  pub answer : a ≡ placeAnswer (wordsIn strip) (wordsIn o) mask work
-  pub leaves : PlaceLeaves (wordsIn strip) (wordsIn o) a words
-  pub strip-left : strip' ≡ bytesLeft strip words
 
 pub record LaidBytes (sheet strip out : List ℕ) (work : ℕ) (a : Laying) (strip' out' : List ℕ) : Type 0 where
   pub words : List ℕ

@@ -12,7 +12,7 @@ use Rattle.defs.specs.Meaning.Question.{Question5}
 use Rattle.defs.specs.Computing.Test.{chainBy}
 use Rattle.defs.specs.Computing.Cells.{Rows}
 use Rattle.defs.specs.Computing.Words.{recordsOf, rowsOf, runsOf}
-use Rattle.defs.specs.Computing.Calls.{Left, OpenLeaves, PlaceLeaves}
+use Rattle.defs.specs.Computing.Calls.{Left, OpenLeaves, PlaceLeaves, CommitLeaves}
 use Rattle.defs.specs.Computing.Lay.{LayLeaves}
 use Rattle.laws.proofs.Complete.{question-5}
 use Rattle.laws.proofs.Formed.{recordsIn, formed}
@@ -182,10 +182,11 @@ module _ {W R N words Q : ℕ} {runs : ℕ → List Rows} {s s' : List ℕ} (lon
       }
 
 pub any-numbers : AnyNumbers
-unfolding OpenLeaves PlaceLeaves LayLeaves
+unfolding OpenLeaves PlaceLeaves CommitLeaves LayLeaves
 any-numbers =
     record {
       open-may = λ l x n. record { answer = x .answer; strip = may-leave l (x .strip) n };
       place-may = λ l x n. record { answer = x .answer; strip = may-leave l (x .strip) n; zeros = x .zeros };
+      commit-may = λ l x n. record { answer = x .answer; strip = may-leave l (x .strip) n; zeros = x .zeros };
       lay-may = λ l x n. record { answer = x .answer; output = x .output; strip = may-leave l (x .strip) n; zeros = x .zeros };
     }

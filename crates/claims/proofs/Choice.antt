@@ -17,7 +17,7 @@ use Rattle.defs.specs.Meaning.Strip.{Length, columnsOf, firstOf, columnOf, lowO
 use Rattle.defs.specs.Computing.Test.{listFrom, chainBy, endsBy}
 use Rattle.defs.specs.Computing.Cells.{Rows, countRuns}
 use Rattle.defs.specs.Computing.Words.{occurrences, wellFormedb, recordsOf, rowsOf, runsOf, columnsRuns}
-use Rattle.defs.specs.Computing.Calls.{Left, OpenLeaves, PlaceLeaves}
+use Rattle.defs.specs.Computing.Calls.{Left, OpenLeaves, PlaceLeaves, CommitLeaves}
 use Rattle.defs.specs.Computing.Lay.{LayLeaves}
 use Rattle.laws.proofs.Occurs.{occurs-at, occurs-first, occurs-later}
 use Rattle.laws.proofs.Chains.{chained-of}
@@ -387,10 +387,11 @@ module _ {W R N words : ℕ} {runs : ℕ → List Rows} {s s' : List ℕ} (a : L
       (ap (λ (n : ℕ). recordsOf n (length s)) (a .columns) ∙ ap (recordsOf N) (a .long) ∙ records-are N q words l) renumbered
 
 pub only-numbers-open : OnlyNumbersOpen
-unfolding OpenLeaves PlaceLeaves LayLeaves
+unfolding OpenLeaves PlaceLeaves CommitLeaves LayLeaves
 only-numbers-open =
     record {
       open-leaves = λ {W} {R} {N} {Q} l x y. renumbered-by (x .strip) (y .strip) Q l;
       place-leaves = λ {Q} l x y. renumbered-by (x .strip) (y .strip) Q l;
+      commit-leaves = λ {Q} l x y. renumbered-by (x .strip) (y .strip) Q l;
       lay-leaves = λ {Q} l x y. renumbered-by (x .strip) (y .strip) Q l;
     }

@@ -29,10 +29,10 @@ use Rattle.sheets.proofs.Asking.{asked, some-none}
 use Rattle.sheets.proofs.Passing.{Held, none-held}
 use Rattle.sheets.proofs.Answers.{not-refused}
 use Rattle.tables.proofs.Empty.{column-none, empty-writable}
-use Rattle.claims.specs.Trace.{Call, Calls, Trace}
-use Rattle.claims.specs.Demand3.{Demand3-holds}
+use Rattle.claims.specs.Trace.{PlaceCall}
+use Rattle.claims.specs.Places.{PlaceCalls, PlaceTrace, PlaceDemand3-holds}
 use Rattle.claims.specs.Laying.{pieceAt, LaysList, Lay-is-a-list, Lay-demand3}
-use Rattle.claims.proofs.Whole.{demand3-holds}
+use Rattle.claims.proofs.PlaceLists.{place-demand3-holds}
 use Rattle.claims.proofs.LayTotals.{fateAt, placed-counted, used-reached, entries-words}
 use Rattle.claims.proofs.LayStrips.{answerAt, fates-are, Strips, strips}
 
@@ -124,7 +124,7 @@ module _ {b s out work : List ℕ} {t : Totals} {s' out' work' : List ℕ} (x : 
       strips (given .held .holds .limits) (length-decides N (length s) .0 (given .long)) work empty ps s' (empty-writable W N Q)
       (x .strip)
 
-  abbrev call : ℕ → Call
+  abbrev call : ℕ → PlaceCall
   call m =
       record {
         outline = pieceAt ps m .outline;
@@ -134,10 +134,10 @@ module _ {b s out work : List ℕ} {t : Totals} {s' out' work' : List ℕ} (x : 
         work-after = cleared work;
       }
 
-  abbrev calls : Calls
+  abbrev calls : PlaceCalls
   calls = record { lent = s; count = length ps; call = call; strip = between .strip }
 
-  abbrev trace : Trace W R N calls
+  abbrev trace : PlaceTrace W R N calls
   trace =
       record {
         open-step =
@@ -189,5 +189,5 @@ unfolding Lay-is-a-list
 lay-is-a-list b s out work t s' out' work' x = lays-list x
 
 pub lay-demand3 : Lay-demand3
-unfolding Lay-demand3 Demand3-holds
-lay-demand3 b s out work t s' out' work' x = (lays-list x, demand3-holds _ _ _ _ (lays-list x .steps))
+unfolding Lay-demand3 PlaceDemand3-holds
+lay-demand3 b s out work t s' out' work' x = (lays-list x, place-demand3-holds _ _ _ _ (lays-list x .steps))

@@ -1,9 +1,16 @@
 pub mod Refusals
 pub mod Invariant
 pub mod Fates
+pub mod CommitFates
+pub mod KeptStrip
 pub mod Passing
+pub mod PlaceAnswers
+pub mod CommitAnswers
+pub mod AskCommit
+pub mod Effects
 pub mod Apart
 pub mod Whole
+pub mod PlaceLists
 pub mod CoverCells
 pub mod SheetsBack
 pub mod LayTotals

@@ -6,11 +6,13 @@ use Prim.Native.Nat.{ℕ, zero, suc, _≤_, _<_}
 use native.Mathlib.Omega.{arith}
 use lib.ListN.{length, getD}
 use Rattle.defs.specs.declared.Placing.{Placing}
+use Rattle.defs.specs.declared.Asking.{Asking}
+use Rattle.defs.specs.declared.Committing.{Committing}
 use Rattle.defs.specs.declared.Totals.{Totals}
 use Rattle.defs.specs.declared.Laying.the-variants.{Laid}
-use Rattle.defs.specs.Answer.{Outcome, placing}
+use Rattle.defs.specs.Answer.{Outcome, placing, asking, committing}
 use Rattle.defs.specs.Meaning.Cell.{Cells}
-use Rattle.defs.specs.Meaning.Strip.{Length, WellFormed, widthOf, resolutionOf, columnsOf}
+use Rattle.defs.specs.Meaning.Strip.{Length, WellFormed, Holds, widthOf, resolutionOf, columnsOf}
 use Rattle.defs.specs.Meaning.Sheet.{Piece, sheetW, sheetR, sheetN}
 use Rattle.defs.specs.Meaning.Question.{Question5, Question7, Question8, Question9, Question10, Question11}
 use Rattle.defs.specs.Computing.Calls.{q9b}
@@ -20,31 +22,58 @@ use Rattle.geom.proofs.Checks.{none-no-is, question-10, question-11, has-side}
 use Rattle.sheets.proofs.PiecesBack.{Each, nothing-left, and-more}
 use Rattle.sheets.proofs.Asking.{PiecePasses}
 use Rattle.sheets.proofs.Passing.{Held, holds-pieces}
-use Rattle.claims.specs.Trace.{Calls, Trace, Occupied}
+use Rattle.tables.proofs.Sets.{Same}
+use Rattle.claims.specs.Trace.{Call, place-call, ask-call, commit-call, Step, Calls, Trace, Occupied}
 use Rattle.claims.specs.Demand3.{Demand3, Demand3-holds}
+use Rattle.claims.specs.Places.{PlaceCalls, PlaceTrace, PlacedCells, PlaceDemand3, PlaceDemand3-holds}
 use Rattle.claims.specs.Laying.{LaysList}
-use Rattle.claims.specs.Numbers.{Answers, fateQuestions, placeQuestions}
+use Rattle.claims.specs.Numbers.{Answers, fateQuestions, placeQuestions, askQuestions, commitQuestions, callQuestions, outcomeIn}
 use Rattle.claims.proofs.Whole.{demand3-holds}
+use Rattle.claims.proofs.PlaceLists.{place-demand3-holds}
 use Rattle.claims.proofs.LayList.{lay-granted}
 use Rattle.claims.proofs.Asked.{after-yes}
-use Rattle.claims.proofs.OutlineNumbers.{place-answers}
+use Rattle.claims.proofs.OutlineNumbers.{place-answers, ask-answers, commit-answers}
 
 of-list : {W R N : ℕ} {x : Calls} → Trace W R N x → Demand3 W R N x
 unfolding Demand3-holds
 of-list {W} {R} {N} {x} t = demand3-holds W R N x t
 
+-- each call, on a strip that holds the cells C
+call-answers : (s s' : List ℕ) (C : Cells) → Same (Holds s) C → (c : Call) → Step c s s' → Answers (callQuestions s C c) (outcomeIn c)
+unfolding Step callQuestions outcomeIn
+call-answers s s' C same (place-call c) t =
+    subst (λ (a : Placing). Answers (placeQuestions s C (c .outline) (c .mask) (length (c .work))) (placing a)) (sym (t .answer))
+    (place-answers s C (λ _. same) (c .outline) (c .mask) (length (c .work)))
+call-answers s s' C same (ask-call c) t =
+    subst (λ (a : Asking). Answers (askQuestions s C (c .outline) (c .mask) (length (c .work))) (asking a)) (sym (t .answer))
+    (ask-answers s C (λ _. same) (c .outline) (c .mask) (length (c .work)))
+call-answers s s' C same (commit-call c) t =
+    subst (λ (a : Committing). Answers (commitQuestions s C (c .outline) (c .at) (length (c .work))) (committing a)) (sym (t .answer))
+    (commit-answers s C (λ _. same) (c .outline) (c .at) (length (c .work)))
+
 pub list-answers : {W R N : ℕ} {x : Calls} → Trace W R N x → (m : ℕ) → m < x .count →
-    Answers
-    (placeQuestions (x .strip m) (Occupied R (x .call) m) (x .call m .outline) (x .call m .mask) (length (x .call m .work)))
-    (placing (x .call m .answer))
+    Answers (callQuestions (x .strip m) (Occupied R (x .call) m) (x .call m)) (outcomeIn (x .call m))
 list-answers {W} {R} {N} {x} t m h =
+    call-answers (x .strip m) (x .strip (suc m)) (Occupied R (x .call) m) (of-list t .strip-is m (omega arith) .holds) (x .call m)
+    (t .step m h)
+
+-- a list of place calls alone
+of-places : {W R N : ℕ} {x : PlaceCalls} → PlaceTrace W R N x → PlaceDemand3 W R N x
+unfolding PlaceDemand3-holds
+of-places {W} {R} {N} {x} t = place-demand3-holds W R N x t
+
+places-answers : {W R N : ℕ} {x : PlaceCalls} → PlaceTrace W R N x → (m : ℕ) → m < x .count →
+    Answers
+    (placeQuestions (x .strip m) (PlacedCells R (x .call) m) (x .call m .outline) (x .call m .mask) (length (x .call m .work)))
+    (placing (x .call m .answer))
+places-answers {W} {R} {N} {x} t m h =
     subst
     (λ (a : Placing).
     Answers
-    (placeQuestions (x .strip m) (Occupied R (x .call) m) (x .call m .outline) (x .call m .mask) (length (x .call m .work)))
+    (placeQuestions (x .strip m) (PlacedCells R (x .call) m) (x .call m .outline) (x .call m .mask) (length (x .call m .work)))
     (placing a))
     (sym (t .place-step m h .answer))
-    (place-answers (x .strip m) (Occupied R (x .call) m) (λ _. of-list t .strip-is m (omega arith) .holds) (x .call m .outline)
+    (place-answers (x .strip m) (PlacedCells R (x .call) m) (λ _. of-places t .strip-is m (omega arith) .holds) (x .call m .outline)
     (x .call m .mask) (length (x .call m .work)))
 
 -- 7 to 11 of a piece that passes them
@@ -94,8 +123,8 @@ module _ {b s out work : List ℕ} {t : Totals} {s' out' work' : List ℕ} (x : 
   held : Held b
   held = lay-granted b (length s) (length out) (length work) t (x .answer) .held
 
-  d : Demand3 (sheetW b) (sheetR b) (sheetN b) (l .list)
-  d = of-list (l .steps)
+  d : PlaceDemand3 (sheetW b) (sheetR b) (sheetN b) (l .list)
+  d = of-places (l .steps)
 
   in-list : m < l .list .count
   in-list = omega (arith, l .all-of-them)
@@ -117,14 +146,14 @@ module _ {b s out work : List ℕ} {t : Totals} {s' out' work' : List ℕ} (x : 
 
   pub lay-fate :
       Answers
-      (fateQuestions (sheetW b) (sheetR b) (sheetN b) Q (Occupied (sheetR b) (l .list .call) m) (l .list .call m .outline)
+      (fateQuestions (sheetW b) (sheetR b) (sheetN b) Q (PlacedCells (sheetR b) (l .list .call) m) (l .list .call m .outline)
       (l .list .call m .mask) (length work))
       (placing (l .list .call m .answer))
   lay-fate =
       let i = d .strip-is m (omega (arith, in-list)) in
-      fate-same Q (Occupied (sheetR b) (l .list .call) m) (l .list .call m .outline) (l .list .call m .mask)
+      fate-same Q (PlacedCells (sheetR b) (l .list .call) m) (l .list .call m .outline) (l .list .call m .mask)
       (placing (l .list .call m .answer)) (i .width) (i .resolution) (i .columns) (l .works m h)
       (fate-left (l .list .strip m) _ (l .list .call m .outline) (l .list .call m .mask) (length (l .list .call m .work)) Q
-      (placing (l .list .call m .answer)) (list-answers (l .steps) m in-list)
+      (placing (l .list .call m .answer)) (places-answers (l .steps) m in-list)
       (subst (WellFormed (l .list .strip m)) Q-is (i .well-formed))
       (rw (i .resolution) asked))

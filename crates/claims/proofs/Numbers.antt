@@ -5,14 +5,16 @@ use lib.ListN.{length}
 use Rattle.defs.specs.declared.Opening.{Opening}
 use Rattle.defs.specs.declared.Covering.{Covering}
 use Rattle.defs.specs.declared.Placing.{Placing}
+use Rattle.defs.specs.declared.Asking.{Asking}
+use Rattle.defs.specs.declared.Committing.{Committing}
 use Rattle.defs.specs.declared.Reading.{Reading}
 use Rattle.defs.specs.declared.Writing.{Writing}
-use Rattle.defs.specs.Answer.{opening, covering, placing, reading, writing}
+use Rattle.defs.specs.Answer.{opening, covering, placing, asking, committing, reading, writing}
 use Rattle.defs.specs.Meaning.Strip.{Holds}
-use Rattle.claims.specs.Numbers.{Answers, openQuestions, coverQuestions, placeQuestions, readQuestions, writeQuestions, Demand1-numbers}
-use Rattle.claims.proofs.OutlineNumbers.{open-answers, cover-answers, place-answers}
+use Rattle.claims.specs.Numbers.{Answers, openQuestions, coverQuestions, placeQuestions, askQuestions, commitQuestions, readQuestions, writeQuestions, Demand1-numbers}
+use Rattle.claims.proofs.OutlineNumbers.{open-answers, cover-answers, place-answers, ask-answers, commit-answers}
 use Rattle.claims.proofs.SheetNumbers.{read-answers, write-answers}
-use Rattle.claims.proofs.PlacedAlone.{placed-alone}
+use Rattle.claims.proofs.PlacedAlone.{placed-alone, committed-alone}
 use Rattle.claims.proofs.ListNumbers.{list-answers, lay-fate}
 use Rattle.claims.proofs.LayNumbers.{lay-asked}
 
@@ -32,6 +34,15 @@ demand1-numbers =
           subst (λ (a : Placing). Answers (placeQuestions s (Holds s) o mask (length work)) (placing a)) (sym (x .answer))
           (place-answers s (Holds s) (λ _ i j. (λ h. h, λ h. h)) o mask (length work));
       place-alone = λ x. placed-alone x;
+      ask-asks =
+          λ {s} {o} {mask} {work} x.
+          subst (λ (a : Asking). Answers (askQuestions s (Holds s) o mask (length work)) (asking a)) (sym (x .answer))
+          (ask-answers s (Holds s) (λ _ i j. (λ h. h, λ h. h)) o mask (length work));
+      commit-asks =
+          λ {s} {o} {p} {work} x.
+          subst (λ (a : Committing). Answers (commitQuestions s (Holds s) o p (length work)) (committing a)) (sym (x .answer))
+          (commit-answers s (Holds s) (λ _ i j. (λ h. h, λ h. h)) o p (length work));
+      commit-alone = λ x. committed-alone x;
       list-asks = list-answers;
       read-asks =
           λ {b} {out} x.

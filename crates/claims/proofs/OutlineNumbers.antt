@@ -5,27 +5,28 @@ use mathlib.Core.Logic.{_⊎_, ⊎-elim, _≢_}
 use mathlib.Core.Bool.{true}
 use mathlib.Core.List.{List, [], _∷_}
 use mathlib.Core.Option.{Option, none, some}
-use Prim.Native.Nat.{ℕ, zero, suc, _^_, _≤_, _<_}
-use native.Mathlib.Omega.{arith}
+use Prim.Native.Nat.{ℕ, _^_, _≤_, _<_}
 use lib.Dec.{leb}
 use lib.ListN.{length}
 use Rattle.defs.specs.declared.Position.{Position}
 use Rattle.defs.specs.declared.Opening.the-variants.{Opened, Refused as NotOpened}
 use Rattle.defs.specs.declared.Covering.the-variants.{Runs, Refused as NotCovered}
+use Rattle.defs.specs.declared.Placing.{Placing}
 use Rattle.defs.specs.declared.Placing.the-variants.{Placed, Refused as NotPlaced}
-use Rattle.defs.specs.Answer.{opening, covering, placing}
+use Rattle.defs.specs.declared.Committing.the-variants.{Committed, Refused as NotCommitted}
+use Rattle.defs.specs.Answer.{opening, covering, placing, asking, committing}
 use Rattle.defs.specs.Meaning.Limits.{mostTurn}
 use Rattle.defs.specs.Meaning.Outline.{sides, KeepsOrder}
-use Rattle.defs.specs.Meaning.Turn.{turned, Allows}
+use Rattle.defs.specs.Meaning.Turn.{turned}
 use Rattle.defs.specs.Meaning.Cell.{Cells}
 use Rattle.defs.specs.Meaning.Strip.{Holds, widthOf, resolutionOf, columnsOf}
 use Rattle.defs.specs.Meaning.Placing.{Best, cellsIn}
-use Rattle.defs.specs.Meaning.Question.{Question5, Question7, Question9, Question9Turn, Question10, Question13, Question14}
+use Rattle.defs.specs.Meaning.Question.{Question5, Question7, Question9, Question9Turn, Question10, Question13, Question14, Question18}
 use Rattle.defs.specs.Computing.Test.{ask}
 use Rattle.defs.specs.Computing.Cells.{Rows, pieceRuns, countRuns}
 use Rattle.defs.specs.Computing.Words.{lengthb, resolutionb, wellFormedb, columnsRuns}
 use Rattle.defs.specs.Computing.Search.{bestBelow}
-use Rattle.defs.specs.Computing.Calls.{refusal, q9b, q12b, q14b, openAnswer, coverAnswer, choose, placeOn, placeAnswer}
+use Rattle.defs.specs.Computing.Calls.{refusal, q9b, q12b, q14b, q18b, openAnswer, coverAnswer, choose, placeOn, placeAnswer, shown, askAnswer, commitOn, commitAnswer}
 use Rattle.laws.proofs.Tests.{Decides, decides-by}
 use Rattle.laws.proofs.Questions.{question-16, question-4, question-7, question-9, question-9-turn, records-are}
 use Rattle.laws.proofs.Complete.{question-5}
@@ -33,11 +34,13 @@ use Rattle.laws.proofs.Order.{later-irreflexive, later-transitive, same-or-not}
 use Rattle.laws.proofs.Formed.{formed}
 use Rattle.geom.proofs.Checks.{question-12, has-side, runs-of-turn}
 use Rattle.tables.proofs.Tables.{Table, In}
-use Rattle.tables.proofs.Sets.{Same, same-sym, best-same, q13-same, q14-same}
+use Rattle.tables.proofs.Sets.{Same, same-sym, best-same, q13-same, q14-same, q18-same}
+use Rattle.tables.proofs.FreeTest.{question-18}
 use Rattle.tables.proofs.Held.{table-of, holds-table}
 use Rattle.tables.proofs.Searching as searching
 use Rattle.tables.proofs.Records as records
-use Rattle.claims.specs.Numbers.{asks, grants, Answers, RunsAre, openQuestions, coverQuestions, fateQuestions, placeQuestions}
+use Rattle.claims.specs.Numbers.{asks, grants, Answers, RunsAre, openQuestions, coverQuestions, fateQuestions, placeQuestions, askQuestions, commitQuestions}
+use Rattle.turns.proofs.Alone.{allows-own}
 use Rattle.claims.proofs.Asked.{gets-no, gets-yes, is-granted, step, limits-asked, outline-asked}
 
 pub open-answers : (W R N words : ℕ) → Answers (openQuestions W R N words) (opening (openAnswer W R N words))
@@ -47,17 +50,9 @@ open-answers W R N words =
     (λ _ _ _. step opening (lengthb N words) _ (NotOpened (refusal 4 0)) Opened 4 0 _ refl (question-4 N words)
     (λ _. is-granted _ (opening Opened) refl refl refl))
 
--- a turn alone is allowed
-allows-it : (t : ℕ) → t ≤ 3 → Allows (2 ^ t) t
-allows-it zero h = record { turn = h; bit = refl }
-allows-it (suc zero) h = record { turn = h; bit = refl }
-allows-it (suc (suc zero)) h = record { turn = h; bit = refl }
-allows-it (suc (suc (suc zero))) h = record { turn = h; bit = refl }
-allows-it (suc (suc (suc (suc t)))) h = absurd (omega arith)
-
 keeps-order : (o : List ℕ) (t : ℕ) → t ≤ 3 → Question10 o (2 ^ t) → KeepsOrder (turned o t)
 unfolding Question10
-keeps-order o t h q = q t (allows-it t h)
+keeps-order o t h q = q t (allows-own t h)
 
 runs-are : (o : List ℕ) (t R : ℕ) → KeepsOrder (turned o t) → 0 < sides o → 1 ≤ R →
     RunsAre (cellsIn R o t) (countRuns (pieceRuns o t R))
@@ -137,6 +132,9 @@ module _
         (λ _. chosen (bestBelow W R N held o mask 4) refl)
 
 -- one strip, of which the cells C are those that it holds
+runs-same : (s : List ℕ) (C : Cells) → wellFormedb s ≡ true → Same (Holds s) C → Same (In (columnsRuns s)) C
+runs-same s C w holds i j = (λ h. holds i j .0 (holds-table s w i j .1 h), λ c. holds-table s w i j .0 (holds i j .1 c))
+
 pub place-answers : (s : List ℕ) (C : Cells) → (wellFormedb s ≡ true → Same (Holds s) C) → (o : List ℕ) (mask words : ℕ) →
     Answers (placeQuestions s C o mask words) (placing (placeAnswer s o mask words))
 unfolding placeAnswer placeOn placeQuestions Question5
@@ -150,5 +148,62 @@ place-answers s C holds o mask words =
     (λ q7 _ q10.
     rw (records-are (columnsOf s) (q5 .0) (length s) (q5 .1 .long))
     (fate-answers (widthOf s) (resolutionOf s) (columnsOf s) (q5 .0) (columnsRuns s) C
-    (λ i j. (λ h. holds w i j .0 (holds-table s w i j .1 h), λ c. holds-table s w i j .0 (holds w i j .1 c))) (table-of s w) Rpos
-    o mask words q7 q10)))
+    (runs-same s C w (holds w)) (table-of s w) Rpos o mask words q7 q10)))
+
+-- an ask's outcome is that of the place call
+shown-outcome : (a : Placing) → placing a ≡ asking (shown a)
+shown-outcome (Placed p) = refl
+shown-outcome (NotPlaced r) = refl
+
+pub ask-answers : (s : List ℕ) (C : Cells) → (wellFormedb s ≡ true → Same (Holds s) C) → (o : List ℕ) (mask words : ℕ) →
+    Answers (askQuestions s C o mask words) (asking (askAnswer s o mask words))
+unfolding askAnswer
+ask-answers s C holds o mask words =
+    subst (Answers (askQuestions s C o mask words)) (shown-outcome (placeAnswer s o mask words)) (place-answers s C holds o mask words)
+
+-- 18 and 14 at one position of a strip that holds these runs, which are the cells C
+module _
+    (W R N Q : ℕ)
+    (held : List (List Rows))
+    (C : Cells)
+    (same : Same (In held) C)
+    (table : Table W N held)
+    (Rpos : 1 ≤ R)
+    (o : List ℕ)
+    (p : Position)
+    (keeps : KeepsOrder (turned o (p .turn)))
+    (side : 0 < sides o) where
+  eighteen : Decides (q18b W R N held o p) (Question18 W R N C o p)
+  eighteen =
+      decides-by (λ q. q18-same _ _ same W R N o p q) (λ q. q18-same _ _ (same-sym same) W R N o p q)
+      (question-18 W R N held o p keeps side Rpos table)
+
+  fourteen-at : Question18 W R N C o p → Decides (q14b W R Q held o p) (Question14 R Q C o p)
+  fourteen-at f =
+      decides-by (λ q. q14-same _ _ same R Q o p q) (λ q. q14-same _ _ (same-sym same) R Q o p q)
+      (records.question-14 W R N Q held o p keeps side Rpos table (f .on-strip))
+
+pub commit-answers : (s : List ℕ) (C : Cells) → (wellFormedb s ≡ true → Same (Holds s) C) → (o : List ℕ) (p : Position) (words : ℕ) →
+    Answers (commitQuestions s C o p words) (committing (commitAnswer s o p words))
+unfolding commitAnswer commitOn commitQuestions Question5
+commit-answers s C holds o p words =
+    step committing (wellFormedb s) _ (NotCommitted (refusal 5 0)) _ 5 0 _ refl (question-5 s)
+    (λ q5.
+    let w = question-5 s .1 q5 in
+    let Rpos = formed s w .limits .resolution .at-least in
+    let same = runs-same s C w (holds w) in
+    outline-asked committing NotCommitted (λ n k. refl) true (leb (p .turn) mostTurn) o (2 ^ p .turn) (resolutionOf s) 1 Rpos
+    (Question7 o) (Question9Turn (p .turn)) (λ _. o) (question-7 o) (λ q7. q7) (λ _. refl) (question-9-turn (p .turn)) _ _
+    (λ q7 q9 q10.
+    rw (records-are (columnsOf s) (q5 .0) (length s) (q5 .1 .long))
+    (step committing (q12b o (2 ^ p .turn) (resolutionOf s) words) _ (NotCommitted (refusal 12 1)) _ 12 1 _ refl
+    (question-12 o (2 ^ p .turn) (resolutionOf s) q10 (has-side o q7) Rpos words)
+    (λ _.
+    step committing (q18b (widthOf s) (resolutionOf s) (columnsOf s) (columnsRuns s) o p) _ (NotCommitted (refusal 18 0)) _ 18 0 _ refl
+    (eighteen (widthOf s) (resolutionOf s) (columnsOf s) (q5 .0) (columnsRuns s) C same (table-of s w) Rpos o p
+    (keeps-order o (p .turn) q9 q10) (has-side o q7))
+    (λ q18.
+    step committing (q14b (widthOf s) (resolutionOf s) (q5 .0) (columnsRuns s) o p) _ (NotCommitted (refusal 14 1)) Committed 14 1 _ refl
+    (fourteen-at (widthOf s) (resolutionOf s) (columnsOf s) (q5 .0) (columnsRuns s) C same (table-of s w) Rpos o p
+    (keeps-order o (p .turn) q9 q10) (has-side o q7) q18)
+    (λ _. is-granted _ (committing Committed) refl refl refl))))))

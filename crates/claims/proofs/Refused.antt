@@ -5,7 +5,7 @@ use mathlib.Core.Path.{_≡_, refl, ap, _∙_}
 use mathlib.Core.List.{List}
 use Prim.Native.Nat.{ℕ, zero, suc}
 use lib.ListN.{length, getD, replicate, length-replicate}
-use Rattle.defs.specs.Computing.Calls.{OpenLeaves, PlaceLeaves, coverOutput, cleared}
+use Rattle.defs.specs.Computing.Calls.{OpenLeaves, PlaceLeaves, CommitLeaves, coverOutput, cleared}
 use Rattle.defs.specs.Computing.Sheets.{readOutput, writeOutput}
 use Rattle.defs.specs.Computing.Lay.{layOutput, LayLeaves}
 use Rattle.claims.specs.Demand1.{Zero, Demand1}
@@ -24,12 +24,14 @@ zeros work work' e =
     }
 
 pub demand1 : Demand1
-unfolding OpenLeaves PlaceLeaves coverOutput readOutput writeOutput layOutput LayLeaves
+unfolding OpenLeaves PlaceLeaves CommitLeaves coverOutput readOutput writeOutput layOutput LayLeaves
 demand1 =
     record {
       open-keeps = λ x. x .strip;
       cover-keeps = λ x. x .output;
       place-keeps = λ x. x .strip;
+      ask-keeps = λ x. x .strip;
+      commit-keeps = λ x. x .strip;
       read-keeps = λ x. x .output;
       write-keeps = λ x. x .output;
       lay-keeps = λ x. (x .strip, x .output);
@@ -38,5 +40,7 @@ demand1 =
       write-past = write-past;
       lay-past = lay-past;
       place-clears = λ x. zeros _ _ (x .zeros);
+      ask-clears = λ x. zeros _ _ (x .zeros);
+      commit-clears = λ x. zeros _ _ (x .zeros);
       lay-clears = λ x. zeros _ _ (x .zeros);
     }

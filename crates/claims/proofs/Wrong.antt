@@ -1,7 +1,7 @@
 -- Demand 3 refuses the lists of calls that wrong programs make.
 -- Assumes nothing.
 use mathlib.Core.Path.{_≡_, refl, sym, ap, subst}
-use mathlib.Core.Logic.{_⊎_, ⊎-elim}
+use mathlib.Core.Logic.{_⊎_, ⊎-elim, _≢_}
 use mathlib.Core.Bool.{true, false}
 use mathlib.Core.List.{List, []}
 use Prim.Native.Nat.{ℕ, zero, suc, _<_}
@@ -9,7 +9,11 @@ use native.Mathlib.Omega.{arith}
 use lib.ListN.{length, getD, replicate}
 use Rattle.defs.specs.declared.Position.{Position}
 use Rattle.defs.specs.declared.Placing.the-variants.{Placed, Refused}
+use Rattle.defs.specs.declared.Asking.{Asking}
+use Rattle.defs.specs.declared.Asking.the-variants.{Found, Refused as NotFound}
+use Rattle.defs.specs.declared.Committing.the-variants.{Committed, Refused as NotCommitted}
 use Rattle.defs.specs.Meaning.Outline.{Inside, passesThrough, edgeAt}
+use Rattle.defs.specs.Meaning.Cell.{Cells}
 use Rattle.defs.specs.Meaning.Placing.{moved, cellsAt, OnStrip, Free, Fits, Best, Later}
 use Rattle.defs.specs.Meaning.Question.{Asked7to12, Question5, Question13, Question14}
 use Rattle.defs.specs.Computing.Calls.{refusal}
@@ -19,10 +23,11 @@ use Rattle.geom.proofs.Checks.{checks}
 use Rattle.geom.proofs.Stretches.{Valid, no-rows}
 use Rattle.tables.proofs.Tables.{In, Table}
 use Rattle.tables.proofs.Sets.{Same}
-use Rattle.claims.specs.Trace.{Calls, Occupied}
+use Rattle.claims.specs.Trace.{Call, Calls, ask-call, commit-call, Puts, Lies, Occupied}
 use Rattle.claims.specs.Demand3.{Demand3}
-use Rattle.claims.proofs.OutlineNumbers.{fourteen}
-use Rattle.claims.specs.Wrong.{square, atHeight, calls, stacked, WrongLists}
+use Rattle.claims.specs.Places.{PlaceCalls, PlacedCells, PlaceDemand3}
+use Rattle.claims.proofs.OutlineNumbers.{best-is, fourteen}
+use Rattle.claims.specs.Wrong.{square, atHeight, calls, stacked, askFor, commitAt, repeated, WrongLists}
 
 by-four : (P : ℕ → Type 0) → P 0 → P 1 → P 2 → P 3 → (i : ℕ) → i < 4 → P i
 by-four P a b c d zero h = a
@@ -67,7 +72,7 @@ unfolding runs
 on-strip-0 = record { columns = omega arith; rows = omega arith }
 
 -- nothing is occupied before the first call
-fits-0 : (x : Calls) → Fits 10 2 10 (Occupied 2 (x .call) 0) square 1 (atHeight 0)
+fits-0 : (x : PlaceCalls) → Fits 10 2 10 (PlacedCells 2 (x .call) 0) square 1 (atHeight 0)
 unfolding Free
 fits-0 x =
     record {
@@ -97,21 +102,24 @@ table : Table 10 10 empty
 unfolding empty Valid
 table = record { long = refl; below = λ i j a. absurd (none-in i j a); valid = λ i. subst Valid (sym (columns-empty 10 i)) tt }
 
-none-held : (x : Calls) → Same (In empty) (Occupied 2 (x .call) 0)
-none-held x i j = (λ a. absurd (none-in i j a), λ o. absurd (omega (arith, o .is-earlier)))
+module _ (C : Cells) (none : (i j : ℕ) → ¬ C i j) where
+  none-held : Same (In empty) C
+  none-held i j = (λ a. absurd (none-in i j a), λ c. absurd (none i j c))
 
-room : (x : Calls) (p : Position) → Best 10 2 10 (Occupied 2 (x .call) 0) square 1 p → Question14 2 6 (Occupied 2 (x .call) 0) square p
-unfolding runs empty
-room x =
-    fourteen 10 2 10 6 empty (Occupied 2 (x .call) 0) (none-held x) table (omega arith) square 1 6 (asked .q7) (asked .q10)
-    (atHeight 0) refl .0 refl
+  room : (p : Position) → Best 10 2 10 C square 1 p → Question14 2 6 C square p
+  unfolding runs empty
+  room = fourteen 10 2 10 6 empty C none-held table (omega arith) square 1 6 (asked .q7) (asked .q10) (atHeight 0) refl .0 refl
+
+  room-0 : Question14 2 6 C square (atHeight 0)
+  unfolding runs empty
+  room-0 = room (atHeight 0) (best-is 10 2 10 6 empty C none-held table (omega arith) square 1 6 (asked .q7) (asked .q10) (atHeight 0) refl)
 
 module _ (lent : List ℕ) (strip : ℕ → List ℕ) where
-  searched : ¬ Demand3 10 2 10 (calls lent 1 (λ _. Refused (refusal 13 1)) strip)
+  searched : ¬ PlaceDemand3 10 2 10 (calls lent 1 (λ _. Refused (refusal 13 1)) strip)
   unfolding Question13
   searched d = d .no-position 0 (omega arith) .0 refl .1 (atHeight 0, fits-0 (calls lent 1 (λ _. Refused (refusal 13 1)) strip))
 
-  entered : strip 1 ≡ strip 0 → ¬ Demand3 10 2 10 (calls lent 1 (λ _. Placed (atHeight 0)) strip)
+  entered : strip 1 ≡ strip 0 → ¬ PlaceDemand3 10 2 10 (calls lent 1 (λ _. Placed (atHeight 0)) strip)
   entered e d =
       let held =
       d .strip-is 1 (omega arith) .holds 0 0 .1
@@ -119,7 +127,7 @@ module _ (lent : List ℕ) (strip : ℕ → List ℕ) where
       let o = d .strip-is 0 (omega arith) .holds 0 0 .0 (rw (← e) held) in
       omega (arith, o .is-earlier)
 
-  not-faked : strip 2 ≡ strip 1 → ¬ Demand3 10 2 10 (calls lent 2 stacked strip)
+  not-faked : strip 2 ≡ strip 1 → ¬ PlaceDemand3 10 2 10 (calls lent 2 stacked strip)
   unfolding Free
   not-faked e d =
       let held =
@@ -127,14 +135,14 @@ module _ (lent : List ℕ) (strip : ℕ → List ℕ) where
       (record { earlier = 1; is-earlier = omega arith; position = atHeight 4; places = refl; covered = cell-4 }) in
       d .free 1 (atHeight 4) (omega arith) refl 0 4 cell-4 (d .strip-is 1 (omega arith) .holds 0 4 .0 (rw (← e) held))
 
-  not-always-0 : ¬ Demand3 10 2 10 (calls lent 2 (λ _. Placed (atHeight 0)) strip)
+  not-always-0 : ¬ PlaceDemand3 10 2 10 (calls lent 2 (λ _. Placed (atHeight 0)) strip)
   not-always-0 d = d .no-point-in-two 0 1 (atHeight 0) (atHeight 0) 1 1 2 (omega arith) (omega arith) refl refl inside-0 inside-0
 
   not-later : ¬ Later 2 square (atHeight 1) (atHeight 0)
   unfolding Later runs
   not-later h = ⊎-elim (λ a. omega arith) (⊎-elim (λ a. omega (arith, a .1)) (λ a. omega (arith, a .2))) h
 
-  best-only : ¬ Demand3 10 2 10 (calls lent 1 (λ _. Placed (atHeight 1)) strip)
+  best-only : ¬ PlaceDemand3 10 2 10 (calls lent 1 (λ _. Placed (atHeight 1)) strip)
   best-only d =
       not-later
       (d .best 0 (atHeight 1) (omega arith) refl .first (atHeight 0) (fits-0 (calls lent 1 (λ _. Placed (atHeight 1)) strip))
@@ -143,7 +151,7 @@ module _ (lent : List ℕ) (strip : ℕ → List ℕ) where
   refused-placed : {p : Position} (n k : ℕ) → ¬ (Refused (refusal n k) ≡ Placed p)
   refused-placed n k e = let z : _≡_ {A = ℕ} 0 1 = cc in omega arith
 
-  not-refused : (n k : ℕ) → length lent ≡ 38 → ¬ Demand3 10 2 10 (calls lent 1 (λ _. Refused (refusal n k)) strip)
+  not-refused : (n k : ℕ) → length lent ≡ 38 → ¬ PlaceDemand3 10 2 10 (calls lent 1 (λ _. Refused (refusal n k)) strip)
   unfolding Question5 Question13
   not-refused n k long d =
       let x = calls lent 1 (λ _. Refused (refusal n k)) strip in
@@ -152,7 +160,98 @@ module _ (lent : List ℕ) (strip : ℕ → List ℕ) where
       (d .places-it 0 (omega arith)
       (record { q5 = (d .Q, d .strip-is 0 (omega arith) .well-formed); q7to12 = asked })
       (atHeight 0, fits-0 x)
-      (λ p b. subst (λ (q : ℕ). Question14 2 q (Occupied 2 (x .call) 0) square p) (sym e) (room x p b)) .1)
+      (λ p b.
+      subst (λ (q : ℕ). Question14 2 q (PlacedCells 2 (x .call) 0) square p) (sym e)
+      (room (PlacedCells 2 (x .call) 0) (λ i j o. omega (arith, o .is-earlier)) p b)) .1)
+
+-- lists with ask and commit: nothing is occupied before the first call
+none-before : (call : ℕ → Call) (i j : ℕ) → ¬ Occupied 2 call 0 i j
+none-before call i j o = omega (arith, o .lies .earlier)
+
+fits-first : (call : ℕ → Call) → Fits 10 2 10 (Occupied 2 call 0) square 1 (atHeight 0)
+unfolding Free
+fits-first call =
+    record {
+      allowed = record { turn = omega arith; bit = refl };
+      on-strip = on-strip-0;
+      free = λ i j c o. none-before call i j o;
+    }
+
+module _ (lent : List ℕ) (strip : ℕ → List ℕ) where
+  asked-searched : ¬ Demand3 10 2 10 (repeated lent 1 (ask-call (askFor (NotFound (refusal 13 1)))) strip)
+  unfolding Question13
+  asked-searched d =
+      d .ask-no-position 0 (askFor (NotFound (refusal 13 1))) (omega arith, refl) .0 refl .1
+      (atHeight 0, fits-first (λ _. ask-call (askFor (NotFound (refusal 13 1)))))
+
+  asked-best : ¬ Demand3 10 2 10 (repeated lent 1 (ask-call (askFor (Found (atHeight 1)))) strip)
+  asked-best d =
+      not-later lent strip
+      (d .best-ask 0 (askFor (Found (atHeight 1))) (atHeight 1) (omega arith, refl) refl .first (atHeight 0)
+      (fits-first (λ _. ask-call (askFor (Found (atHeight 1)))))
+      (λ e. omega (arith, ap (λ (p : Position). p .height) e)))
+
+  asked-kept : (a : Asking) → strip 1 ≢ strip 0 → ¬ Demand3 10 2 10 (repeated lent 1 (ask-call (askFor a)) strip)
+  asked-kept a n d = n (d .ask-keeps 0 (askFor a) (omega arith, refl))
+
+  six : (x : Calls) → length (x .lent) ≡ 38 → (d : Demand3 10 2 10 x) → d .Q ≡ 6
+  six x long d = omega (arith, long, d .opened-with .words-are)
+
+  asked-refused : (n k : ℕ) → length lent ≡ 38 → ¬ Demand3 10 2 10 (repeated lent 1 (ask-call (askFor (NotFound (refusal n k)))) strip)
+  unfolding Question5 Question13
+  asked-refused n k long d =
+      let c = askFor (NotFound (refusal n k)) in
+      let call : ℕ → Call = λ _. ask-call c in
+      not-found
+      (d .finds-it 0 c (omega arith, refl) (record { q5 = (d .Q, d .strip-is 0 (omega arith) .well-formed); q7to12 = asked })
+      (atHeight 0, fits-first call)
+      (λ p b.
+      subst (λ (q : ℕ). Question14 2 q (Occupied 2 call 0) square p) (sym (six _ long d))
+      (room (Occupied 2 call 0) (none-before call) p b)) .1)
+    where
+      not-found : {p : Position} → ¬ (NotFound (refusal n k) ≡ Found p)
+      not-found e = let z : _≡_ {A = ℕ} 0 1 = cc in omega arith
+
+  -- each of these commits has put the square there
+  lies : (m l : ℕ) → l < m → Lies (λ _. commit-call (commitAt 0 Committed)) m l square (atHeight 0)
+  unfolding Puts
+  lies m l h = record { earlier = h; puts = (refl, refl, refl) }
+
+  commit-entered : strip 1 ≡ strip 0 → ¬ Demand3 10 2 10 (repeated lent 1 (commit-call (commitAt 0 Committed)) strip)
+  commit-entered e d =
+      let held =
+      d .strip-is 1 (omega arith) .holds 0 0 .1
+      (record { call = 0; outline = square; position = atHeight 0; lies = lies 1 0 (omega arith); covered = cell-0 }) in
+      none-before (λ _. commit-call (commitAt 0 Committed)) 0 0 (d .strip-is 0 (omega arith) .holds 0 0 .0 (rw (← e) held))
+
+  commit-apart : ¬ Demand3 10 2 10 (repeated lent 2 (commit-call (commitAt 0 Committed)) strip)
+  commit-apart d =
+      d .no-point-in-two 2 0 1 square square (atHeight 0) (atHeight 0) 1 1 2 (omega arith) (omega arith) (lies 2 0 (omega arith))
+      (lies 2 1 (omega arith)) inside-0 inside-0
+
+  commit-looked : ¬ Demand3 10 2 10 (repeated lent 1 (commit-call (commitAt 0 (NotCommitted (refusal 18 0)))) strip)
+  unfolding Free
+  commit-looked d =
+      d .commit-18 0 (commitAt 0 (NotCommitted (refusal 18 0))) (omega arith, refl) .0 refl .1
+      (record {
+        on-strip = on-strip-0;
+        free = λ i j c o. none-before (λ _. commit-call (commitAt 0 (NotCommitted (refusal 18 0)))) i j o;
+      })
+
+  commit-not-refused : (n k : ℕ) → length lent ≡ 38 →
+      ¬ Demand3 10 2 10 (repeated lent 1 (commit-call (commitAt 0 (NotCommitted (refusal n k)))) strip)
+  unfolding Question5 Free
+  commit-not-refused n k long d =
+      let c = commitAt 0 (NotCommitted (refusal n k)) in
+      let call : ℕ → Call = λ _. commit-call c in
+      not-committed
+      (d .commits-it 0 c (omega arith, refl) (record { q5 = (d .Q, d .strip-is 0 (omega arith) .well-formed); q7to12 = asked })
+      (record { on-strip = on-strip-0; free = λ i j c o. none-before call i j o })
+      (subst (λ (q : ℕ). Question14 2 q (Occupied 2 call 0) square (atHeight 0)) (sym (six _ long d))
+      (room-0 (Occupied 2 call 0) (none-before call))))
+    where
+      not-committed : ¬ (NotCommitted (refusal n k) ≡ Committed)
+      not-committed e = let z : _≡_ {A = ℕ} 0 1 = cc in omega arith
 
 pub wrong-lists : WrongLists
 wrong-lists =
@@ -162,5 +261,13 @@ wrong-lists =
       rest-faked = not-faked;
       height-0-always = not-always-0;
       not-the-best = best-only;
-      all-refused = λ lent strip n k long. not-refused lent strip n k long;
+      all-refused = not-refused;
+      asked-before-searching = asked-searched;
+      asks-refused = asked-refused;
+      asked-not-the-best = asked-best;
+      ask-enters = asked-kept;
+      commit-not-entered = commit-entered;
+      commit-on-a-piece = commit-apart;
+      commit-before-looking = commit-looked;
+      commits-refused = commit-not-refused;
     }

@@ -8,11 +8,12 @@ use Rattle.defs.specs.declared.Position.{Position}
 use Rattle.defs.specs.declared.Totals.{Totals}
 use Rattle.defs.specs.declared.Opening.the-variants.{Opened}
 use Rattle.defs.specs.declared.Placing.the-variants.{Placed}
+use Rattle.defs.specs.declared.Committing.the-variants.{Committed}
 use Rattle.defs.specs.declared.Laying.the-variants.{Laid}
 use Rattle.defs.specs.Meaning.Limits.{Between}
 use Rattle.defs.specs.Meaning.Strip.{Length, widthOf, resolutionOf, columnsOf, firstOf, columnOf, lowOf, highOf, nextOf}
 use Rattle.defs.specs.Meaning.Sheet.{sheetN}
-use Rattle.defs.specs.Computing.Calls.{OpenStep, PlaceStep}
+use Rattle.defs.specs.Computing.Calls.{OpenStep, PlaceStep, CommitStep}
 use Rattle.defs.specs.Computing.Lay.{LayStep}
 
 -- s' is s with its records 1 to Q numbered anew, record r as `to r`: each word of s' is told by s and the numbering.
@@ -43,6 +44,9 @@ pub record OnlyNumbersOpen : Type 0 where
       {Q : ℕ} {s o : List ℕ} {mask : ℕ} {work : List ℕ} {p : Position} {s₁ work₁ s₂ work₂ : List ℕ} →
       Length (columnsOf s) Q (length s) → PlaceStep s o mask work (Placed p) s₁ work₁ → PlaceStep s o mask work (Placed p) s₂ work₂ →
       Renumbered Q s₁ s₂
+  pub commit-leaves :
+      {Q : ℕ} {s o : List ℕ} {p : Position} {work s₁ work₁ s₂ work₂ : List ℕ} → Length (columnsOf s) Q (length s) →
+      CommitStep s o p work Committed s₁ work₁ → CommitStep s o p work Committed s₂ work₂ → Renumbered Q s₁ s₂
   pub lay-leaves :
       {Q : ℕ} {b s out work : List ℕ} {t : Totals} {s₁ out₁ work₁ s₂ out₂ work₂ : List ℕ} → Length (sheetN b) Q (length s) →
       LayStep b s out work (Laid t) s₁ out₁ work₁ → LayStep b s out work (Laid t) s₂ out₂ work₂ → Renumbered Q s₁ s₂
@@ -56,6 +60,9 @@ pub record AnyNumbers : Type 0 where
       {Q : ℕ} {s o : List ℕ} {mask : ℕ} {work : List ℕ} {p : Position} {s₁ s₂ work' : List ℕ} →
       Length (columnsOf s) Q (length s) → PlaceStep s o mask work (Placed p) s₁ work' → Renumbered Q s₁ s₂ →
       PlaceStep s o mask work (Placed p) s₂ work'
+  pub commit-may :
+      {Q : ℕ} {s o : List ℕ} {p : Position} {work s₁ s₂ work' : List ℕ} → Length (columnsOf s) Q (length s) →
+      CommitStep s o p work Committed s₁ work' → Renumbered Q s₁ s₂ → CommitStep s o p work Committed s₂ work'
   pub lay-may :
       {Q : ℕ} {b s out work : List ℕ} {t : Totals} {s₁ s₂ out' work' : List ℕ} → Length (sheetN b) Q (length s) →
       LayStep b s out work (Laid t) s₁ out' work' → Renumbered Q s₁ s₂ → LayStep b s out work (Laid t) s₂ out' work'

@@ -12,12 +12,16 @@ use Rattle.defs.specs.declared.Opening.the-variants.{Refused as NotOpened}
 use Rattle.defs.specs.declared.Covering.the-variants.{Runs, Refused as NotCovered}
 use Rattle.defs.specs.declared.Placing.{Placing}
 use Rattle.defs.specs.declared.Placing.the-variants.{Refused as NotPlaced}
+use Rattle.defs.specs.declared.Position.{Position}
+use Rattle.defs.specs.declared.Asking.{Asking}
+use Rattle.defs.specs.declared.Committing.{Committing}
+use Rattle.defs.specs.declared.Committing.the-variants.{Refused as NotCommitted}
 use Rattle.defs.specs.declared.Reading.the-variants.{Read, Refused as NotRead}
 use Rattle.defs.specs.declared.Writing.the-variants.{Written, Refused as NotWritten}
 use Rattle.defs.specs.declared.Laying.{Laying}
 use Rattle.defs.specs.declared.Laying.the-variants.{Laid, Refused as NotLaid}
 use Rattle.defs.specs.Meaning.Sheet.{Piece, SheetHolds, listWords}
-use Rattle.defs.specs.Computing.Calls.{OpenStep, CoverStep, PlaceStep}
+use Rattle.defs.specs.Computing.Calls.{OpenStep, CoverStep, PlaceStep, AskStep, CommitStep}
 use Rattle.defs.specs.Computing.Sheets.{ReadStep, WriteStep}
 use Rattle.defs.specs.Computing.Lay.{LayStep}
 
@@ -39,6 +43,11 @@ pub record Demand1 : Type 0 where
       {o : List ℕ} {t R : ℕ} {out out' : List ℕ} {r : Refusal} → CoverStep o t R out (NotCovered r) out' → out' ≡ out
   pub place-keeps :
       {s o : List ℕ} {mask : ℕ} {work s' work' : List ℕ} {r : Refusal} → PlaceStep s o mask work (NotPlaced r) s' work' → s' ≡ s
+  -- an ask keeps the strip whatever is answered: "changes no strip word"
+  pub ask-keeps :
+      {s o : List ℕ} {mask : ℕ} {work : List ℕ} {a : Asking} {s' work' : List ℕ} → AskStep s o mask work a s' work' → s' ≡ s
+  pub commit-keeps :
+      {s o : List ℕ} {p : Position} {work s' work' : List ℕ} {r : Refusal} → CommitStep s o p work (NotCommitted r) s' work' → s' ≡ s
   pub read-keeps :
       {b out out' : List ℕ} {r : Refusal} → ReadStep b out (NotRead r) out' → out' ≡ out
   pub write-keeps :
@@ -61,5 +70,11 @@ pub record Demand1 : Type 0 where
   pub place-clears :
       {s o : List ℕ} {mask : ℕ} {work : List ℕ} {a : Placing} {s' work' : List ℕ} →
       PlaceStep s o mask work a s' work' → Zero work work'
+  pub ask-clears :
+      {s o : List ℕ} {mask : ℕ} {work : List ℕ} {a : Asking} {s' work' : List ℕ} →
+      AskStep s o mask work a s' work' → Zero work work'
+  pub commit-clears :
+      {s o : List ℕ} {p : Position} {work : List ℕ} {a : Committing} {s' work' : List ℕ} →
+      CommitStep s o p work a s' work' → Zero work work'
   pub lay-clears :
       {b s out work : List ℕ} {a : Laying} {s' out' work' : List ℕ} → LayStep b s out work a s' out' work' → Zero work work'

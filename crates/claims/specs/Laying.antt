@@ -9,8 +9,7 @@ use Rattle.defs.specs.Answer.{fateWords}
 use Rattle.defs.specs.Meaning.Sheet.{Piece, SheetHolds, sheetW, sheetR, sheetN}
 use Rattle.defs.specs.Meaning.Job.{Used, CountPlaced}
 use Rattle.defs.specs.Computing.Lay.{fateOf, LayStep}
-use Rattle.claims.specs.Trace.{Calls, Trace}
-use Rattle.claims.specs.Demand3.{Demand3}
+use Rattle.claims.specs.Places.{PlaceCalls, PlaceTrace, PlaceDemand3}
 
 -- piece m, counted from 0
 abbrev pub pieceAt : List Piece → ℕ → Piece
@@ -21,8 +20,8 @@ pieceAt ps m = getD ps m (record { mask = 0; outline = [] })
 pub record LaysList (b s : List ℕ) (t : Totals) (s' out' work : List ℕ) : Type 0 where
   pub pieces : List Piece
   pub sheet : SheetHolds b pieces
-  pub list : Calls
-  pub steps : Trace (sheetW b) (sheetR b) (sheetN b) list
+  pub list : PlaceCalls
+  pub steps : PlaceTrace (sheetW b) (sheetR b) (sheetN b) list
   pub opens : list .lent ≡ s
   pub all-of-them : list .count ≡ length pieces
   pub outlines : (m : ℕ) → m < length pieces → list .call m .outline ≡ pieceAt pieces m .outline
@@ -43,4 +42,5 @@ Lay-is-a-list =
 unfoldable pub Lay-demand3 : Type 0
 Lay-demand3 =
     (b s out work : List ℕ) (t : Totals) (s' out' work' : List ℕ) →
-    LayStep b s out work (Laid t) s' out' work' → (l : LaysList b s t s' out' work) × Demand3 (sheetW b) (sheetR b) (sheetN b) (l .list)
+    LayStep b s out work (Laid t) s' out' work' →
+    (l : LaysList b s t s' out' work) × PlaceDemand3 (sheetW b) (sheetR b) (sheetN b) (l .list)

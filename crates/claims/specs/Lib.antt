@@ -2,6 +2,8 @@ pub mod Trace
 pub mod Demand1
 pub mod Demand2
 pub mod Demand3
+pub mod Places
+pub mod Asking
 pub mod Laying
 pub mod Numbers
 pub mod Wrong

@@ -11,22 +11,26 @@ use Rattle.defs.specs.declared.Opening.{Opening}
 use Rattle.defs.specs.declared.Covering.{Covering}
 use Rattle.defs.specs.declared.Placing.{Placing}
 use Rattle.defs.specs.declared.Placing.the-variants.{Placed}
+use Rattle.defs.specs.declared.Asking.{Asking}
+use Rattle.defs.specs.declared.Committing.{Committing}
+use Rattle.defs.specs.declared.Committing.the-variants.{Committed}
 use Rattle.defs.specs.declared.Reading.{Reading}
 use Rattle.defs.specs.declared.Writing.{Writing}
 use Rattle.defs.specs.declared.Laying.{Laying}
 use Rattle.defs.specs.declared.Laying.the-variants.{Laid}
 use Rattle.defs.specs.declared.Totals.{Totals}
-use Rattle.defs.specs.Answer.{Outcome, opening, covering, placing, reading, writing, laying}
+use Rattle.defs.specs.Answer.{Outcome, opening, covering, placing, asking, committing, reading, writing, laying}
 use Rattle.defs.specs.Meaning.Cell.{Cells, AtMostRuns}
 use Rattle.defs.specs.Meaning.Strip.{Length, Holds, widthOf, resolutionOf, columnsOf}
 use Rattle.defs.specs.Meaning.Placing.{Best, OccupiedBefore, cellsIn, cellsAt}
 use Rattle.defs.specs.Meaning.Sheet.{Piece, Pieces, Question1, Question2, sheetW, sheetR, sheetN, pieceNumber, vertexWords, listWords, listPiece, afterPiece}
 use Rattle.defs.specs.Meaning.Job.{Used, CountPlaced}
-use Rattle.defs.specs.Meaning.Question.{Question2Size, Question3, Question16, Question17, Question4, Question5, Question6, Question6List, Question7, Question7Sheet, Question7List, Question8, Question9, Question9Turn, Question10, Question11, Question12, Question13, Question14, Question15}
-use Rattle.defs.specs.Computing.Calls.{OpenStep, CoverStep, PlaceStep}
+use Rattle.defs.specs.Meaning.Question.{Question2Size, Question3, Question16, Question17, Question4, Question5, Question6, Question6List, Question7, Question7Sheet, Question7List, Question8, Question9, Question9Turn, Question10, Question11, Question12, Question13, Question14, Question15, Question18}
+use Rattle.defs.specs.Computing.Calls.{OpenStep, CoverStep, PlaceStep, AskStep, CommitStep}
 use Rattle.defs.specs.Computing.Sheets.{ReadStep, WriteStep}
 use Rattle.defs.specs.Computing.Lay.{LayStep, fateOf}
-use Rattle.claims.specs.Trace.{Calls, Trace, Occupied}
+use Rattle.claims.specs.Trace.{Call, place-call, ask-call, commit-call, Calls, Trace, Occupied}
+use Rattle.claims.specs.Places.{PlacedCells}
 use Rattle.claims.specs.Laying.{LaysList, pieceAt}
 
 -- Questions in their order: the number and the ordinal that a "no" gives, the question, and the questions after a "yes", which may
@@ -90,6 +94,37 @@ placeQuestions s C o mask words =
     asks 10 1 (Question10 o mask) λ _.
     asks 11 1 (Question11 o mask (resolutionOf s)) λ _.
     fateQuestions (widthOf s) (resolutionOf s) (columnsOf s) (q5 .0) C o mask words
+
+-- S-2: "Ask answers the position that place would give, or its number"
+abbrev pub askQuestions : List ℕ → Cells → List ℕ → ℕ → ℕ → Questions
+askQuestions s C o mask words = placeQuestions s C o mask words
+
+-- S-2: commit "asks what place asks with that turn alone allowed", and 18 "instead of 13": 5, 7 to 12, 18, 14, the last two of the
+-- position lent
+unfoldable pub commitQuestions : List ℕ → Cells → List ℕ → Position → ℕ → Questions
+unfolding Question5
+commitQuestions s C o p words =
+    asks 5 0 (Question5 s) λ q5.
+    asks 7 1 (Question7 o) λ _.
+    asks 8 1 (Question8 o) λ _.
+    asks 9 1 (Question9Turn (p .turn)) λ _.
+    asks 10 1 (Question10 o (2 ^ p .turn)) λ _.
+    asks 11 1 (Question11 o (2 ^ p .turn) (resolutionOf s)) λ _.
+    asks 12 1 (Question12 o (2 ^ p .turn) (resolutionOf s) words) λ _.
+    asks 18 0 (Question18 (widthOf s) (resolutionOf s) (columnsOf s) C o p) λ _.
+    asks 14 1 (Question14 (resolutionOf s) (q5 .0) C o p) λ _.
+    grants λ values. values ≡ []
+
+-- of a call of a list, on strip s, where the cells C are occupied; and its answer
+unfoldable pub callQuestions : List ℕ → Cells → Call → Questions
+callQuestions s C (place-call c) = placeQuestions s C (c .outline) (c .mask) (length (c .work))
+callQuestions s C (ask-call c) = askQuestions s C (c .outline) (c .mask) (length (c .work))
+callQuestions s C (commit-call c) = commitQuestions s C (c .outline) (c .at) (length (c .work))
+
+unfoldable pub outcomeIn : Call → Outcome
+outcomeIn (place-call c) = placing (c .answer)
+outcomeIn (ask-call c) = asking (c .answer)
+outcomeIn (commit-call c) = committing (c .answer)
 
 -- "7 to 11 piece by piece", each with "the piece's place in chain": of the piece records rs of a sheet, from place k on
 unfoldable pub chainQuestions : List ℕ → ℕ → List ℕ → Questions → Questions
@@ -189,6 +224,16 @@ pub record PlacedAlone (s o : List ℕ) (mask : ℕ) (p : Position) (s' : List �
   pub columns : columnsOf s' ≡ columnsOf s
   pub holds : (i j : ℕ) → Holds s' i j ↔ (Holds s i j ⊎ cellsAt (resolutionOf s) o p i j)
 
+-- And one granted commit.
+pub record CommittedAlone (s o : List ℕ) (p : Position) (s' : List ℕ) : Type 0 where
+  pub fits : Question18 (widthOf s) (resolutionOf s) (columnsOf s) (Holds s) o p
+  pub well-formed : Question5 s'
+  pub long : length s' ≡ length s
+  pub width : widthOf s' ≡ widthOf s
+  pub resolution : resolutionOf s' ≡ resolutionOf s
+  pub columns : columnsOf s' ≡ columnsOf s
+  pub holds : (i j : ℕ) → Holds s' i j ↔ (Holds s i j ⊎ cellsAt (resolutionOf s) o p i j)
+
 pub record Demand1-numbers : Type 0 where
   pub open-asks :
       {W R N : ℕ} {s s' : List ℕ} {a : Opening} → OpenStep W R N s a s' → Answers (openQuestions W R N (length s)) (opening a)
@@ -202,12 +247,18 @@ pub record Demand1-numbers : Type 0 where
   pub place-alone :
       {s o : List ℕ} {mask : ℕ} {work s' work' : List ℕ} {p : Position} → PlaceStep s o mask work (Placed p) s' work' →
       PlacedAlone s o mask p s'
+  pub ask-asks :
+      {s o : List ℕ} {mask : ℕ} {work s' work' : List ℕ} {a : Asking} → AskStep s o mask work a s' work' →
+      Answers (askQuestions s (Holds s) o mask (length work)) (asking a)
+  pub commit-asks :
+      {s o : List ℕ} {p : Position} {work s' work' : List ℕ} {a : Committing} → CommitStep s o p work a s' work' →
+      Answers (commitQuestions s (Holds s) o p (length work)) (committing a)
+  pub commit-alone :
+      {s o : List ℕ} {p : Position} {work s' work' : List ℕ} → CommitStep s o p work Committed s' work' → CommittedAlone s o p s'
   -- A call of a list: "A cell is occupied there if it is covered for a piece placed by an earlier call of the list".
   pub list-asks :
       {W R N : ℕ} {x : Calls} → Trace W R N x → (m : ℕ) → m < x .count →
-      Answers
-      (placeQuestions (x .strip m) (Occupied R (x .call) m) (x .call m .outline) (x .call m .mask) (length (x .call m .work)))
-      (placing (x .call m .answer))
+      Answers (callQuestions (x .strip m) (Occupied R (x .call) m) (x .call m)) (outcomeIn (x .call m))
   pub read-asks :
       {b out out' : List ℕ} {a : Reading} → ReadStep b out a out' → Answers (readQuestions b (length out)) (reading a)
   pub write-asks :
@@ -222,6 +273,6 @@ pub record Demand1-numbers : Type 0 where
       {b s out work : List ℕ} {t : Totals} {s' out' work' : List ℕ} → LayStep b s out work (Laid t) s' out' work' →
       (l : LaysList b s t s' out' work) (Q : ℕ) → Length (sheetN b) Q (length s) → (m : ℕ) → m < length (l .pieces) →
       Answers
-      (fateQuestions (sheetW b) (sheetR b) (sheetN b) Q (Occupied (sheetR b) (l .list .call) m) (l .list .call m .outline)
+      (fateQuestions (sheetW b) (sheetR b) (sheetN b) Q (PlacedCells (sheetR b) (l .list .call) m) (l .list .call m .outline)
       (l .list .call m .mask) (length work))
       (placing (l .list .call m .answer))

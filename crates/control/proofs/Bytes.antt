@@ -2,12 +2,12 @@
 -- Assumes nothing.
 use mathlib.Core.Path.{_≡_, sym, ap, subst, _∙_}
 use mathlib.Core.List.{List}
-use Prim.Native.Nat.{ℕ}
+use Prim.Native.Nat.{ℕ, suc}
 use Rattle.defs.specs.Computing.Bytes.{wordsIn, oddByte, bytesLeft}
 use Rattle.defs.specs.Computing.Calls.{OpenStep}
 use Rattle.bytewords.proofs.Laws.{words-left, odd-left}
-use Rattle.control.specs.Lists.{PackedCalls, PackedTrace, Packed-demand3}
-use Rattle.control.specs.Bytes.{BytesAreWords, BytesTrace, inWords, OddStays, Bytes-demand3}
+use Rattle.control.specs.Lists.{PackedCall, PackedCalls, place-with, ask-with, commit-at, PackedStep, PackedTrace, Packed-demand3}
+use Rattle.control.specs.Bytes.{BytesAreWords, BytesStep, BytesTrace, callInWords, inWords, OddStays, Bytes-demand3}
 use Rattle.control.proofs.Lists.{packed-demand3}
 
 -- a buffer after a call, and the words left in it
@@ -29,16 +29,11 @@ bytes-are-words =
             },
             odd-stays _ _ (x .step .strip-left),
           );
-      place-words =
-          λ {strip} {o} {mask} {work} x. (
-            record {
-              answer = x .answer;
-              step =
-                  rw (← left-words _ _ (x .step .strip-left), ← left-words _ _ (x .step .work-left)) (x .step .step);
-              packs = x .packs;
-            },
-            odd-stays _ _ (x .step .strip-left),
-            odd-stays _ _ (x .step .work-left),
+      same-words =
+          λ x. (
+            rw (← left-words _ _ (x .strip-left), ← left-words _ _ (x .work-left)) (x .step),
+            odd-stays _ _ (x .strip-left),
+            odd-stays _ _ (x .work-left),
           );
       lay-words =
           λ {sheet} {strip} {out} {work} x. (
@@ -55,13 +50,19 @@ bytes-are-words =
           );
     }
 
+step-in-words : (c : PackedCall) (s s' : List ℕ) → BytesStep c s s' → PackedStep (callInWords c) (wordsIn s) (wordsIn s')
+unfolding BytesStep PackedStep callInWords
+step-in-words (place-with mask c) s s' x = bytes-are-words .same-words x .0
+step-in-words (ask-with mask c) s s' x = bytes-are-words .same-words x .0
+step-in-words (commit-at p c) s s' x = bytes-are-words .same-words x .0
+
 in-words : {W R N : ℕ} {x : PackedCalls} → BytesTrace W R N x → PackedTrace W R N (inWords x)
-in-words t =
+in-words {x = x} t =
     record {
       opened = t .opened;
       is-granted = t .is-granted;
       open-step = bytes-are-words .open-words (t .open-step) .0;
-      place-step = λ m h. bytes-are-words .place-words (t .place-step m h) .0;
+      step = λ m h. step-in-words (x .call m) (x .strip m) (x .strip (suc m)) (t .step m h);
     }
 
 pub bytes-demand3 : Bytes-demand3

@@ -17,7 +17,7 @@ use Rattle.defs.specs.Meaning.Placing.{Best, cellsIn}
 use Rattle.defs.specs.Meaning.Sheet.{afterPiece}
 use Rattle.defs.specs.Meaning.Question.{Question4, Question5, Question6, Question7Sheet}
 use Rattle.packing.specs.Packed.{first16, second16, third16, fourth16, high32, Packs, PacksWide}
-use Rattle.claims.specs.Numbers.{Questions, asks, grants, Answers, RunsAre, openQuestions, coverQuestions, placeQuestions, chainQuestions, listQuestions, readQuestions, writeQuestions, LaidTotals, layQuestions, layQuestionsTo}
+use Rattle.claims.specs.Numbers.{Questions, asks, grants, Answers, RunsAre, openQuestions, coverQuestions, placeQuestions, commitQuestions, chainQuestions, listQuestions, readQuestions, writeQuestions, LaidTotals, layQuestions, layQuestionsTo}
 use Rattle.strokes.specs.Stroke.{DrawnOnce, FirstShared}
 use Rattle.knife.specs.Retraced.{retraceQuestions}
 use Rattle.control.specs.Answered.{taken, takenWide}
@@ -88,7 +88,7 @@ taken-wide-is n qs a p e h = go (a .number) refl
         outcome-is a _ _ _ (sym (p .number)) (sym (p .ordinal not-0) ∙ sym (where-not (first16 n) m 0 (second16 n) f))
         (other-number 1 qs a h not-0 ∙ sym (where-not (first16 n) m (high32 n ∷ []) [] f))
 
--- the lists of the calls
+-- the lists of the calls; ask has that of place
 
 pub open-ended : (W R N words : ℕ) → Ended 0 (openQuestions W R N words)
 open-ended W R N words =
@@ -110,6 +110,13 @@ place-ended s C o mask words =
     (g :
     (p : Position) × (vs ≡ p .turn ∷ p .column ∷ p .height ∷ []) ×
     Best (widthOf s) (resolutionOf s) (columnsOf s) C o mask p). ap length (g .1)
+
+pub commit-ended : (s : List ℕ) (C : Cells) (o : List ℕ) (p : Position) (words : ℕ) → Ended 0 (commitQuestions s C o p words)
+unfolding commitQuestions Question5
+commit-ended s C o p words =
+    more λ _. more λ _. more λ _. more λ _. more λ _.
+    more λ _. more λ _. more λ _. more λ _.
+    end λ vs e. ap length e
 
 chain-ended : (k : ℕ) (b : List ℕ) (j : ℕ) (rs : List ℕ) (qs : Questions) → Ended k qs → Ended k (chainQuestions b j rs qs)
 unfolding chainQuestions Question7Sheet

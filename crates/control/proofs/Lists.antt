@@ -5,9 +5,9 @@ use mathlib.Core.Path.{_≡_, refl, sym, ap, subst, _∙_}
 use mathlib.Core.Logic.{_≢_}
 use mathlib.Core.Bool.{Bool, true, false}
 use mathlib.Core.List.{List}
-use Prim.Native.Nat.{ℕ, zero, suc}
+use Prim.Native.Nat.{ℕ, zero, suc, _^_}
 use native.Mathlib.Omega.{arith}
-use lib.Dec.{eqb, eqb·suc-zero}
+use lib.Dec.{leb, eqb, eqb·suc-zero}
 use lib.ListN.{length, getD}
 use Rattle.defs.specs.declared.Position.{Position}
 use Rattle.defs.specs.declared.Refusal.{Refusal}
@@ -15,25 +15,30 @@ use Rattle.defs.specs.declared.Opening.{Opening}
 use Rattle.defs.specs.declared.Opening.the-variants.{Opened, Refused as NotOpened}
 use Rattle.defs.specs.declared.Placing.{Placing}
 use Rattle.defs.specs.declared.Placing.the-variants.{Placed, Refused}
+use Rattle.defs.specs.declared.Asking.{Asking}
+use Rattle.defs.specs.declared.Asking.the-variants.{Found, Refused as NotFound}
+use Rattle.defs.specs.declared.Committing.{Committing}
+use Rattle.defs.specs.declared.Committing.the-variants.{Committed, Refused as NotCommitted}
 use Rattle.defs.specs.declared.Totals.{Totals}
 use Rattle.defs.specs.declared.Laying.{Laying}
 use Rattle.defs.specs.declared.Laying.the-variants.{Laid, Refused as NotLaid}
-use Rattle.defs.specs.Answer.{opening, placing, laying}
-use Rattle.defs.specs.Meaning.Strip.{Holds}
+use Rattle.defs.specs.Answer.{opening, placing, asking, committing, laying}
+use Rattle.defs.specs.Meaning.Limits.{mostTurn}
+use Rattle.defs.specs.Meaning.Strip.{Holds, widthOf, resolutionOf, columnsOf}
 use Rattle.defs.specs.Computing.Test.{ask}
-use Rattle.defs.specs.Computing.Words.{limitsNo, lengthb}
-use Rattle.defs.specs.Computing.Calls.{refusal, openAnswer, OpenStep, PlaceStep}
+use Rattle.defs.specs.Computing.Words.{limitsNo, lengthb, wellFormedb, recordsOf, columnsRuns}
+use Rattle.defs.specs.Computing.Calls.{refusal, q12b, q14b, q18b, outlineNo, shown, openAnswer, commitOn, commitAnswer, OpenStep, PlaceStep, AskStep, CommitStep}
 use Rattle.defs.specs.Computing.Lay.{LayStep}
 use Rattle.packing.specs.Packed.{first16, second16, third16, fourth16, Packs}
-use Rattle.packing.specs.Steps.{OpenPacked, PlacePacked, LayPacked}
-use Rattle.claims.specs.Trace.{Trace}
+use Rattle.packing.specs.Steps.{OpenPacked, CommitPacked, LayPacked}
+use Rattle.claims.specs.Trace.{Step, Trace}
 use Rattle.claims.specs.Demand3.{Demand3-holds}
 use Rattle.claims.specs.Laying.{Lay-demand3}
-use Rattle.claims.specs.Numbers.{Answers, placeQuestions, layQuestions}
+use Rattle.claims.specs.Numbers.{Answers, placeQuestions, askQuestions, layQuestions}
 use Rattle.claims.proofs.Numbers.{demand1-numbers}
 use Rattle.claims.proofs.Whole.{demand3-holds}
 use Rattle.claims.proofs.LayList.{lay-demand3}
-use Rattle.control.specs.Lists.{unpacked, PackedCalls, PackedTrace, plain, Packed-demand3, Packed-lay}
+use Rattle.control.specs.Lists.{unpacked, unpackedAsk, unpackedCommit, place-with, ask-with, commit-at, PackedCall, PackedStep, PackedCalls, PackedTrace, plainCall, plain, Packed-demand3, Packed-lay}
 use Rattle.control.proofs.Ends.{where-0, where-not, number-0, place-ended, lay-ended}
 
 -- a refused open has a number
@@ -65,11 +70,11 @@ refusal-is : (r : Refusal) (n k : ℕ) → n ≡ r .number → k ≡ r .ordinal 
 refusal-is r n k en ek = rw (en, ek)
 
 -- what is read is what place answered
-answer-read : {s o : List ℕ} {mask : ℕ} {work : List ℕ} {n : ℕ} {s' work' : List ℕ} (x : PlacePacked s o mask work n s' work') →
-    x .answer ≡ unpacked n
-answer-read {s} {o} {mask} {work} {n} x = go (x .answer) (x .packs) (demand1-numbers .place-asks (x .step))
+placing-read : (s o : List ℕ) (mask words n : ℕ) (a : Placing) → Packs n (placing a) →
+    Answers (placeQuestions s (Holds s) o mask words) (placing a) → a ≡ unpacked n
+placing-read s o mask words n = go
   where
-    go : (a : Placing) → Packs n (placing a) → Answers (placeQuestions s (Holds s) o mask (length work)) (placing a) → a ≡ unpacked n
+    go : (a : Placing) → Packs n (placing a) → Answers (placeQuestions s (Holds s) o mask words) (placing a) → a ≡ unpacked n
     go (Placed p) u h =
         ap Placed
         (position-is p (second16 n) (third16 n) (fourth16 n) (ap (λ (vs : List ℕ). getD vs 0 0) (u .values))
@@ -79,22 +84,76 @@ answer-read {s} {o} {mask} {work} {n} x = go (x .answer) (x .packs) (demand1-num
       where
         by-number : (m : ℕ) → r .number ≡ m → Refused r ≡ unpacked n
         by-number zero z =
-            absurd (omega (arith, number-0 3 _ (placing (Refused r)) (place-ended s (Holds s) o mask (length work)) h z .values))
+            absurd (omega (arith, number-0 3 _ (placing (Refused r)) (place-ended s (Holds s) o mask words) h z .values))
         by-number (suc m) z =
             ap Refused (refusal-is r (first16 n) (second16 n) (u .number) (u .ordinal (λ e. omega (arith, e, z)))) ∙
             sym (where-not (first16 n) m _ _ (u .number ∙ z))
+
+-- and ask, which answers as place does
+asking-read : (s o : List ℕ) (mask words n : ℕ) (a : Asking) → Packs n (asking a) →
+    Answers (askQuestions s (Holds s) o mask words) (asking a) → a ≡ unpackedAsk n
+asking-read s o mask words n (Found p) u h = ap shown (placing-read s o mask words n (Placed p) u h)
+asking-read s o mask words n (NotFound r) u h = ap shown (placing-read s o mask words n (Refused r) u h)
+
+-- a refused commit has a number
+commit-number : (s o : List ℕ) (p : Position) (words : ℕ) (r : Refusal) → NotCommitted r ≡ commitAnswer s o p words → r .number ≢ 0
+unfolding commitAnswer commitOn
+commit-number s o p words r =
+    go (wellFormedb s) (outlineNo o (leb (p .turn) mostTurn) (2 ^ p .turn) (resolutionOf s))
+    (q12b o (2 ^ p .turn) (resolutionOf s) words)
+    (q18b (widthOf s) (resolutionOf s) (columnsOf s) (columnsRuns s) o p)
+    (q14b (widthOf s) (resolutionOf s) (recordsOf (columnsOf s) (length s)) (columnsRuns s) o p)
+  where
+    told : (m k : ℕ) → NotCommitted r ≡ NotCommitted (refusal (suc m) k) → r .number ≢ 0
+    told m k e z = let u : r ≡ refusal (suc m) k = cc in omega (arith, ap (λ (x : Refusal). x .number) u)
+
+    go : (w : Bool) (m : ℕ) (b12 b18 b14 : Bool) →
+        NotCommitted r ≡
+        (ask w (NotCommitted (refusal 5 0)) λ _.
+        ask (eqb m 0) (NotCommitted (refusal m 1)) λ _.
+        ask b12 (NotCommitted (refusal 12 1)) λ _.
+        ask b18 (NotCommitted (refusal 18 0)) λ _. ask b14 (NotCommitted (refusal 14 1)) λ _. Committed) →
+        r .number ≢ 0
+    go false m b12 b18 b14 e z = told 4 0 e z
+    go true (suc m) b12 b18 b14 e z = told m 1 (rw (eqb·suc-zero m) at e) z
+    go true zero false b18 b14 e z = told 11 1 e z
+    go true zero true false b14 e z = told 17 0 e z
+    go true zero true true false e z = told 13 1 e z
+    go true zero true true true e z = let u : _≡_ {A = ℕ} 0 1 = cc in omega arith
+
+-- and commit
+committing-read : {s o : List ℕ} {p : Position} {work : List ℕ} {n : ℕ} {s' work' : List ℕ} (x : CommitPacked s o p work n s' work') →
+    x .answer ≡ unpackedCommit n
+committing-read {s} {o} {p} {work} {n} {s'} {work'} x = go (x .answer) (x .step) (x .packs)
+  where
+    go : (a : Committing) → CommitStep s o p work a s' work' → Packs n (committing a) → a ≡ unpackedCommit n
+    go Committed y u = sym (where-0 (first16 n) _ _ (u .number))
+    go (NotCommitted r) y u = by-number (r .number) refl
+      where
+        by-number : (m : ℕ) → r .number ≡ m → NotCommitted r ≡ unpackedCommit n
+        by-number zero z = absurd (commit-number s o p (length work) r (y .answer) z)
+        by-number (suc m) z =
+            ap NotCommitted (refusal-is r (first16 n) (second16 n) (u .number) (u .ordinal (λ e. omega (arith, e, z)))) ∙
+            sym (where-not (first16 n) m _ _ (u .number ∙ z))
+
+step-read : (c : PackedCall) (s s' : List ℕ) → PackedStep c s s' → Step (plainCall c) s s'
+unfolding PackedStep plainCall Step
+step-read (place-with mask c) s s' x =
+    subst (λ (a : Placing). PlaceStep s (c .outline) mask (c .work) a s' (c .work-after))
+    (placing-read s (c .outline) mask (length (c .work)) (c .answer) (x .answer) (x .packs) (demand1-numbers .place-asks (x .step)))
+    (x .step)
+step-read (ask-with mask c) s s' x =
+    subst (λ (a : Asking). AskStep s (c .outline) mask (c .work) a s' (c .work-after))
+    (asking-read s (c .outline) mask (length (c .work)) (c .answer) (x .answer) (x .packs) (demand1-numbers .ask-asks (x .step)))
+    (x .step)
+step-read (commit-at p c) s s' x =
+    subst (λ (a : Committing). CommitStep s (c .outline) p (c .work) a s' (c .work-after)) (committing-read x) (x .step)
 
 trace : {W R N : ℕ} {x : PackedCalls} → PackedTrace W R N x → Trace W R N (plain x)
 trace {W} {R} {N} {x} t =
     record {
       open-step = opened-by (t .open-step) (t .is-granted);
-      place-step =
-          λ m h.
-          let p = t .place-step m h in
-          subst
-          (λ (a : Placing).
-          PlaceStep (x .strip m) (x .call m .outline) (x .call m .mask) (x .call m .work) a (x .strip (suc m)) (x .call m .work-after))
-          (answer-read p) (p .step);
+      step = λ m h. step-read (x .call m) (x .strip m) (x .strip (suc m)) (t .step m h);
     }
 
 pub packed-demand3 : Packed-demand3

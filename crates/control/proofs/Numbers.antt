@@ -2,14 +2,14 @@
 -- Assumes nothing.
 use mathlib.Core.Path.{subst}
 use lib.ListN.{length}
-use Rattle.defs.specs.Answer.{opening, covering, placing, reading, writing, laying, retracing}
+use Rattle.defs.specs.Answer.{opening, covering, placing, asking, committing, reading, writing, laying, retracing}
 use Rattle.defs.specs.Meaning.Strip.{Holds}
-use Rattle.claims.specs.Numbers.{Answers, openQuestions, coverQuestions, placeQuestions, readQuestions, writeQuestions, layQuestions}
+use Rattle.claims.specs.Numbers.{Answers, openQuestions, coverQuestions, placeQuestions, askQuestions, commitQuestions, readQuestions, writeQuestions, layQuestions}
 use Rattle.claims.proofs.Numbers.{demand1-numbers}
 use Rattle.knife.specs.Retraced.{retraceQuestions, Retrace-asks}
 use Rattle.knife.proofs.Retraced.{retrace-asks}
 use Rattle.control.specs.Answered.{PackedNumbers}
-use Rattle.control.proofs.Ends.{taken-is, taken-wide-is, open-ended, cover-ended, place-ended, read-ended, write-ended, lay-ended, retrace-ended}
+use Rattle.control.proofs.Ends.{taken-is, taken-wide-is, open-ended, cover-ended, place-ended, commit-ended, read-ended, write-ended, lay-ended, retrace-ended}
 
 pub packed-numbers : PackedNumbers
 packed-numbers =
@@ -29,6 +29,16 @@ packed-numbers =
           let qs = placeQuestions s (Holds s) o mask (length work) in
           let h = demand1-numbers .place-asks (x .step) in
           subst (Answers qs) (taken-is 3 n qs (placing (x .answer)) (x .packs) (place-ended s (Holds s) o mask (length work)) h) h;
+      ask-asks =
+          λ {s} {o} {mask} {work} {n} x.
+          let qs = askQuestions s (Holds s) o mask (length work) in
+          let h = demand1-numbers .ask-asks (x .step) in
+          subst (Answers qs) (taken-is 3 n qs (asking (x .answer)) (x .packs) (place-ended s (Holds s) o mask (length work)) h) h;
+      commit-asks =
+          λ {s} {o} {p} {work} {n} x.
+          let qs = commitQuestions s (Holds s) o p (length work) in
+          let h = demand1-numbers .commit-asks (x .step) in
+          subst (Answers qs) (taken-is 0 n qs (committing (x .answer)) (x .packs) (commit-ended s (Holds s) o p (length work)) h) h;
       read-asks =
           λ {b} {out} {n} x.
           let qs = readQuestions b (length out) in

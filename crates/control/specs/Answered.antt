@@ -5,12 +5,13 @@ use mathlib.Core.List.{List, [], _∷_}
 use Prim.Native.Nat.{ℕ}
 use lib.Dec.{eqb}
 use lib.ListN.{length, take}
+use Rattle.defs.specs.declared.Position.{Position}
 use Rattle.defs.specs.Answer.{Outcome}
 use Rattle.defs.specs.Meaning.Strip.{Holds}
 use Rattle.packing.specs.Packed.{first16, second16, third16, fourth16, high32}
-use Rattle.packing.specs.Steps.{OpenPacked, CoverPacked, PlacePacked, ReadPacked, WritePacked, LayPacked, RetracePacked}
+use Rattle.packing.specs.Steps.{OpenPacked, CoverPacked, PlacePacked, AskPacked, CommitPacked, ReadPacked, WritePacked, LayPacked, RetracePacked}
 use Rattle.knife.specs.Retraced.{retraceQuestions}
-use Rattle.claims.specs.Numbers.{Answers, openQuestions, coverQuestions, placeQuestions, readQuestions, writeQuestions, layQuestions}
+use Rattle.claims.specs.Numbers.{Answers, openQuestions, coverQuestions, placeQuestions, askQuestions, commitQuestions, readQuestions, writeQuestions, layQuestions}
 
 -- vikelodu_number; then vikelodu_ordinal where it is not 0, else so many values of 16 bits: vikelodu_turn, vikelodu_column and
 -- vikelodu_height, or those of another call
@@ -40,6 +41,12 @@ pub record PackedNumbers : Type 0 where
   pub place-asks :
       {s o : List ℕ} {mask : ℕ} {work : List ℕ} {n : ℕ} {s' work' : List ℕ} → PlacePacked s o mask work n s' work' →
       Answers (placeQuestions s (Holds s) o mask (length work)) (taken 3 n)
+  pub ask-asks :
+      {s o : List ℕ} {mask : ℕ} {work : List ℕ} {n : ℕ} {s' work' : List ℕ} → AskPacked s o mask work n s' work' →
+      Answers (askQuestions s (Holds s) o mask (length work)) (taken 3 n)
+  pub commit-asks :
+      {s o : List ℕ} {p : Position} {work : List ℕ} {n : ℕ} {s' work' : List ℕ} → CommitPacked s o p work n s' work' →
+      Answers (commitQuestions s (Holds s) o p (length work)) (taken 0 n)
   pub read-asks :
       {b out : List ℕ} {n : ℕ} {out' : List ℕ} → ReadPacked b out n out' → Answers (readQuestions b (length out)) (taken 3 n)
   pub write-asks :

@@ -3,51 +3,58 @@
 use mathlib.Core.Path.{_≡_}
 use mathlib.Core.List.{List}
 use Prim.Native.Nat.{ℕ, suc, _<_}
-use Rattle.defs.specs.Computing.Bytes.{wordsIn, oddByte}
+use Rattle.defs.specs.Computing.Bytes.{wordsIn, oddByte, OnBytes}
 use Rattle.packing.specs.Packed.{first16}
-use Rattle.packing.specs.Steps.{OpenPacked, PlacePacked, LayPacked, OpenBytesPacked, PlaceBytesPacked, LayBytesPacked}
+use Rattle.packing.specs.Steps.{OpenPacked, LayPacked, OpenBytesPacked, PlaceBytesPacked, AskBytesPacked, CommitBytesPacked, LayBytesPacked}
 use Rattle.claims.specs.Demand3.{Demand3}
-use Rattle.control.specs.Lists.{PackedCall, PackedCalls, plain}
+use Rattle.control.specs.Lists.{Packed, PackedCall, place-with, ask-with, commit-at, PackedCalls, plain}
 
 -- "an odd last byte is no part of it and stays"
 abbrev pub OddStays : List ℕ → List ℕ → Type 0
 OddStays bytes bytes' = oddByte bytes' ≡ oddByte bytes
 
-pub record BytesAreWords : Type 0 where
+pub record BytesAreWords : Type 1 where
   pub open-words :
       {W R N : ℕ} {strip : List ℕ} {n : ℕ} {strip' : List ℕ} → OpenBytesPacked W R N strip n strip' →
       OpenPacked W R N (wordsIn strip) n (wordsIn strip') × OddStays strip strip'
-  pub place-words :
-      {strip o : List ℕ} {mask : ℕ} {work : List ℕ} {n : ℕ} {strip' work' : List ℕ} →
-      PlaceBytesPacked strip o mask work n strip' work' →
-      PlacePacked (wordsIn strip) (wordsIn o) mask (wordsIn work) n (wordsIn strip') (wordsIn work') ×
-      OddStays strip strip' × OddStays work work'
+  -- place, ask and commit, and any call with such buffers
+  pub same-words :
+      {Step : List ℕ → List ℕ → List ℕ → List ℕ → List ℕ → Type 0} {strip o work strip' work' : List ℕ} →
+      OnBytes Step strip o work strip' work' →
+      Step (wordsIn strip) (wordsIn o) (wordsIn work) (wordsIn strip') (wordsIn work') × OddStays strip strip' × OddStays work work'
   pub lay-words :
       {sheet strip out work : List ℕ} {n : ℕ} {strip' out' work' : List ℕ} →
       LayBytesPacked sheet strip out work n strip' out' work' →
       LayPacked sheet (wordsIn strip) (wordsIn out) (wordsIn work) n (wordsIn strip') (wordsIn out') (wordsIn work') ×
       OddStays strip strip' × OddStays out out' × OddStays work work'
 
--- a list of calls on bytes, the open granted
+-- the contract of the C function that is called with buffers of bytes
+unfoldable pub BytesStep : PackedCall → List ℕ → List ℕ → Type 0
+BytesStep (place-with mask c) s s' = PlaceBytesPacked s (c .outline) mask (c .work) (c .answer) s' (c .work-after)
+BytesStep (ask-with mask c) s s' = AskBytesPacked s (c .outline) mask (c .work) (c .answer) s' (c .work-after)
+BytesStep (commit-at p c) s s' = CommitBytesPacked s (c .outline) p (c .work) (c .answer) s' (c .work-after)
+
+-- a list of such calls, the open granted
 pub record BytesTrace (W R N : ℕ) (x : PackedCalls) : Type 0 where
   pub opened : ℕ
   pub is-granted : first16 opened ≡ 0
   pub open-step : OpenBytesPacked W R N (x .lent) opened (x .strip 0)
-  pub place-step :
-      (m : ℕ) → m < x .count →
-      PlaceBytesPacked (x .strip m) (x .call m .outline) (x .call m .mask) (x .call m .work) (x .call m .answer)
-      (x .strip (suc m)) (x .call m .work-after)
+  pub step : (m : ℕ) → m < x .count → BytesStep (x .call m) (x .strip m) (x .strip (suc m))
 
 -- the same list with the words of each buffer
-abbrev pub callInWords : PackedCall → PackedCall
-callInWords c =
+abbrev pub buffersInWords : Packed → Packed
+buffersInWords c =
     record {
       outline = wordsIn (c .outline);
-      mask = c .mask;
       work = wordsIn (c .work);
       answer = c .answer;
       work-after = wordsIn (c .work-after);
     }
+
+unfoldable pub callInWords : PackedCall → PackedCall
+callInWords (place-with mask c) = place-with mask (buffersInWords c)
+callInWords (ask-with mask c) = ask-with mask (buffersInWords c)
+callInWords (commit-at p c) = commit-at p (buffersInWords c)
 
 abbrev pub inWords : PackedCalls → PackedCalls
 inWords x =

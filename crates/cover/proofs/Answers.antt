@@ -59,7 +59,7 @@ passed o t e = go (q7b o) (q8b o) (leb t 3) (keepsOrderb (turned o t) (extentX o
 
 -- What cover answers, by the first of 7 to 10 that gets "no" and the number of runs.
 module _ (o : List ℕ) (t R words : ℕ) where
-  outline-by-turn :
+  pub outline-by-turn :
       outlineNo o (leb t 3) (2 ^ t) R ≡
       cond (eqb (turnNo o t) 0) (ask (ltb 0 (countRuns (pieceRuns o t R))) 11 λ _. 0) (turnNo o t)
   unfolding outlineNo turnNo

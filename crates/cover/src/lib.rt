@@ -20,7 +20,7 @@ const KEPT_RUNS: usize = 512;
 const KEPT_WORDS: usize = 1536;
 
 // The first of questions 7 to 10 that gets "no" in turn t, else 0.
-fn turn_no(o: &[u16], t: u16) -> u16
+pub fn turn_no(o: &[u16], t: u16) -> u16
     ensures { λ n. ⌜ n ≡ turnNo (now (o .entry)) t ⌝ }
 {
     if !checks::seven(o) {

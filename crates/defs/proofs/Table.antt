@@ -11,6 +11,9 @@ use Rattle.defs.specs.declared.Placing.{Placing}
 use Rattle.defs.specs.declared.Placing.the-variants.{Placed, Refused}
 use Rattle.defs.specs.declared.Opening.the-variants.{Opened, Refused as NotOpened}
 use Rattle.defs.specs.declared.Covering.the-variants.{Runs, Refused as NotCovered}
+use Rattle.defs.specs.declared.Asking.the-variants.{Found, Refused as NotFound}
+use Rattle.defs.specs.declared.Committing.{Committing}
+use Rattle.defs.specs.declared.Committing.the-variants.{Committed, Refused as NotCommitted}
 use Rattle.defs.specs.declared.Reading.the-variants.{Read, Refused as NotRead}
 use Rattle.defs.specs.declared.Writing.the-variants.{Written, Refused as NotWritten}
 use Rattle.defs.specs.declared.Laying.the-variants.{Laid, Refused as NotLaid}
@@ -18,7 +21,7 @@ use Rattle.defs.specs.Meaning.Sheet.{Piece, listWords}
 use Rattle.defs.specs.Computing.Cells.{Rows, pieceRuns}
 use Rattle.defs.specs.Computing.Words.{wellFormedb}
 use Rattle.defs.specs.Computing.Search.{position}
-use Rattle.defs.specs.Computing.Calls.{refusal, openAnswer, coverAnswer, coverOutput, placeAnswer, openedStrip, placedStrip, listAnswers, Lent}
+use Rattle.defs.specs.Computing.Calls.{refusal, openAnswer, coverAnswer, coverOutput, placeAnswer, askAnswer, commitAnswer, openedStrip, placedStrip, listAnswers, Lent}
 use Rattle.defs.specs.Computing.Sheets.{sheetBytes, readAnswer, readOutput, writeAnswer, writeOutput}
 use Rattle.defs.specs.Computing.Lay.{layAnswer, layOutput}
 use Rattle.defs.specs.Computing.Ascii.{ascii}
@@ -42,6 +45,10 @@ at t c y = Placed (position t c y)
 
 abbrev no : ℕ → Placing
 no n = Refused (refusal n 1)
+
+-- a commit on a strip, with 30 work words
+abbrev commit : List ℕ → List ℕ → ℕ → ℕ → ℕ → Committing
+commit s o t c y = commitAnswer s o (position t c y) 30
 
 abbrev inList : List ℕ → Piece
 inList o = record { mask = 1; outline = o }
@@ -284,6 +291,48 @@ high-above = refl
 no-words : placeAnswer [] T 1 30 ≡ Refused (refusal 5 0)
 unfolding runs
 no-words = refl
+
+-- Ask and commit, on W 2, R 1, N 6, Q 6 with T on it.
+
+with-T : List ℕ
+with-T = placedStrip (openedStrip 2 1 6 34) T (at 0 0 0)
+
+-- Ask answers what place would: U's position, or a number.
+ask-U : askAnswer with-T U 1 30 ∷ askAnswer with-T U 1 8 ∷ askAnswer with-T S 1 30 ∷ askAnswer with-T flat 1 30 ∷ askAnswer [] U 1 30 ∷ [] ≡ Found (position 0 3 0) ∷ NotFound (refusal 12 1) ∷ NotFound (refusal 13 1) ∷ NotFound (refusal 11 1) ∷ NotFound (refusal 5 0) ∷ []
+unfolding runs with-T
+ask-U = refl
+
+-- A commit there is granted. One column to the left it is not free; one to the right, one unit up and at the ends of 16 bits it is off
+-- the strip. 18 has the ordinal 0.
+commit-U : commit with-T U 0 3 0 ∷ commit with-T U 0 2 0 ∷ commit with-T U 0 4 0 ∷ commit with-T U 0 3 1 ∷ commit with-T U 0 65535 0 ∷ commit with-T U 0 3 65535 ∷ [] ≡ Committed ∷ NotCommitted (refusal 18 0) ∷ NotCommitted (refusal 18 0) ∷ NotCommitted (refusal 18 0) ∷ NotCommitted (refusal 18 0) ∷ NotCommitted (refusal 18 0) ∷ []
+unfolding runs with-T
+commit-U = refl
+
+-- A commit need not be the best: T in column 2 or 4 of an empty strip.
+commit-not-best : commit (openedStrip 2 1 7 35) T 0 2 0 ∷ commit (openedStrip 2 1 7 35) T 0 4 0 ∷ [] ≡ Committed ∷ Committed ∷ []
+unfolding runs
+commit-not-best = refl
+
+-- What comes after it is placed with it on the strip.
+commit-then-place : placeAnswer (placedStrip (openedStrip 2 1 7 35) T (at 0 2 0)) T 1 30 ∷ placeAnswer (placedStrip (openedStrip 2 1 7 35) T (at 0 4 0)) T 1 30 ∷ [] ≡ no 13 ∷ at 0 0 0 ∷ []
+unfolding runs
+commit-then-place = refl
+
+-- Its questions are of its turn alone, 9 of the turn itself: the tie gets 10 in turn 1 and not in turn 0, and T, with three runs in turn
+-- 0 and two in turn 1, passes 12 in turn 1 where ask with both turns does not.
+commit-alone : commit (openedStrip 10 1 10 38) wide-tie 0 0 0 ∷ commit (openedStrip 10 1 10 38) wide-tie 1 0 0 ∷ commit (openedStrip 10 1 10 38) wide-tie 4 0 0 ∷ commitAnswer (openedStrip 3 1 10 38) T (position 1 0 0) 6 ∷ commitAnswer (openedStrip 3 1 10 38) T (position 0 0 0) 8 ∷ [] ≡ Committed ∷ NotCommitted (refusal 10 1) ∷ NotCommitted (refusal 9 1) ∷ Committed ∷ NotCommitted (refusal 12 1) ∷ []
+unfolding runs
+commit-alone = refl
+
+-- Free is asked of the runs in its own turn: beside S in columns 1 and 2 the bar stands upright in column 0, and does not lie there.
+commit-upright : commit (placedStrip (openedStrip 6 2 4 32) S (at 0 1 0)) bar 1 0 0 ∷ commit (placedStrip (openedStrip 6 2 4 32) S (at 0 1 0)) bar 0 0 0 ∷ commit (placedStrip (openedStrip 6 2 4 32) S (at 0 1 0)) bar 0 0 4 ∷ [] ≡ Committed ∷ NotCommitted (refusal 18 0) ∷ Committed ∷ []
+unfolding runs
+commit-upright = refl
+
+-- 5, 7, 8 before 9, 11, 12 before 18, 18 before 14, and 14.
+commit-numbers : commit [] T 0 0 0 ∷ commit with-T (16001 ∷ U) 4 0 0 ∷ commit with-T (0 ∷ 0 ∷ 16001 ∷ 0 ∷ 0 ∷ 1 ∷ []) 4 0 0 ∷ commit with-T flat 0 9 9 ∷ commitAnswer with-T U (position 0 0 0) 8 ∷ commit (placedStrip (openedStrip 2 1 6 22) T (at 0 0 0)) U 0 0 0 ∷ commit (placedStrip (openedStrip 2 1 6 22) T (at 0 0 0)) U 0 3 0 ∷ [] ≡ NotCommitted (refusal 5 0) ∷ NotCommitted (refusal 7 1) ∷ NotCommitted (refusal 8 1) ∷ NotCommitted (refusal 11 1) ∷ NotCommitted (refusal 12 1) ∷ NotCommitted (refusal 18 0) ∷ NotCommitted (refusal 14 1) ∷ []
+unfolding runs with-T
+commit-numbers = refl
 
 -- Cover.
 

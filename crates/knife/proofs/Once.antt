@@ -17,6 +17,7 @@ use Rattle.geom.proofs.Strip.{le-or-lt}
 use Rattle.geom.proofs.Extent.{at-most}
 use Rattle.geom.proofs.Line.{height-is}
 use Rattle.geom.proofs.Scale.{height-scale}
+use Rattle.turns.proofs.Chain.{count-none}
 use Rattle.strokes.specs.Stroke.{OnEdge, Shared, DrawnOnce}
 use Rattle.strokes.proofs.Points.{upright-on}
 use Rattle.knife.specs.Knife.{Touches, passesUp}
@@ -27,11 +28,6 @@ use Rattle.knife.proofs.Limit.{TouchesNear, touches-limit}
 use Rattle.knife.proofs.Step.{Step, stepX, stepY, stepD, step-point, step-rest, step-own, step-nearby, step-shares, back-near}
 
 -- one of 0 .. n - 1 passes, and no other
-none-counted : (f : ℕ → Bool) (n : ℕ) → ((j : ℕ) → j < n → f j ≡ false) → countTo f n ≡ 0
-unfolding countTo
-none-counted f zero h = refl
-none-counted f (suc n) h = rw (none-counted f n (λ j l. h j (omega arith)), h n (omega arith)) refl
-
 one-counted : (f : ℕ → Bool) (n i : ℕ) → i < n → f i ≡ true → ((j : ℕ) → j < n → j ≢ i → f j ≡ false) → countTo f n ≡ 1
 unfolding countTo
 one-counted f zero i l t h = absurd (omega arith)
@@ -41,7 +37,7 @@ one-counted f (suc n) i l t h = go (decLt i n) (λ k. one-counted f n i k t (λ 
     go (yes k) r = rw (r k, h n (omega arith) (λ e. omega arith)) refl
     go (no k) r =
         let e : i ≡ n = omega arith in
-        rw (none-counted f n (λ j m. h j (omega arith) (λ e. omega arith)), subst (λ (a : ℕ). f a ≡ true) e t) refl
+        rw (count-none f n (λ j m. h j (omega arith) (λ e. omega arith)), subst (λ (a : ℕ). f a ≡ true) e t) refl
 
 -- A vertical edge at x = k goes up past q/d where one end is not above q/d and the other is.
 record Upright (e : Edge) (k q d : ℕ) : Type 0 where

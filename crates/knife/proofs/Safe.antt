@@ -1,29 +1,39 @@
 -- The knife is safe over every list of calls of which demand 3 holds. Assumes nothing.
 use mathlib.Core.Logic.{⊎-elim, _≢_}
+use mathlib.Core.List.{List}
 use Prim.Native.Nat.{ℕ}
+use native.Mathlib.Omega.{arith}
 use Rattle.defs.specs.declared.Position.{Position}
 use Rattle.defs.specs.Meaning.Outline.{Inside}
+use Rattle.defs.specs.Meaning.Placing.{moved}
+use Rattle.defs.specs.Meaning.Sheet.{sheetW, sheetR, sheetN}
 use Rattle.laws.proofs.Order.{compare3}
 use Rattle.strokes.specs.Stroke.{DrawnOnce}
 use Rattle.strokes.proofs.Turning.{moved-once}
-use Rattle.claims.specs.Trace.{Calls}
+use Rattle.claims.specs.Trace.{Calls, Lies}
 use Rattle.claims.specs.Demand3.{Demand3, Demand3-holds}
-use Rattle.claims.specs.Laying.{Lay-demand3}
+use Rattle.claims.specs.Places.{asCalls}
+use Rattle.claims.specs.Laying.{Lay-is-a-list}
 use Rattle.claims.proofs.Whole.{demand3-holds}
-use Rattle.claims.proofs.LayList.{lay-demand3}
-use Rattle.knife.specs.Safe.{PlacedAt, piece, Knife-safe, List-knife-safe, Lay-knife-safe}
+use Rattle.claims.proofs.PlaceLists.{as-trace}
+use Rattle.claims.proofs.LayList.{lay-is-a-list}
+use Rattle.knife.specs.Safe.{PutAt, Knife-safe, List-knife-safe, Lay-knife-safe}
 use Rattle.knife.proofs.Apart.{border-apart, edge-apart, rise-apart}
 use Rattle.knife.proofs.Once.{once-touches}
 
-module _ {W R N : ℕ} {x : Calls} (t : Demand3 W R N x) {l : ℕ} {p : Position} (a : PlacedAt R x l p) where
-  apart : {m : ℕ} {q : Position} → PlacedAt R x m q → l ≢ m → (u v d : ℕ) → Inside (piece R x l p) u v d → ¬ Inside (piece R x m q) u v d
-  apart {m} {q} b ne u v d i j =
-      ⊎-elim (λ h. t .no-point-in-two l m p q u v d h (b .is-call) (a .places) (b .places) i j)
-      (⊎-elim (λ h. ne h) (λ h. t .no-point-in-two m l q p u v d h (a .is-call) (b .places) (a .places) j i)) (compare3 l m)
+module _ {W R N : ℕ} {x : Calls} (t : Demand3 W R N x) {l : ℕ} {o : List ℕ} {p : Position} (a : PutAt R x l o p) where
+  lies : {m : ℕ} {v : List ℕ} {q : Position} → PutAt R x m v q → Lies (x .call) (x .count) m v q
+  lies b = record { earlier = b .is-call; puts = b .puts }
 
-  -- a piece whose outline draws nothing twice draws nothing twice where it is placed
-  placed-once : DrawnOnce (x .call l .outline) → DrawnOnce (piece R x l p)
-  placed-once = moved-once R (x .call l .outline) p (t .best l p (a .is-call) (a .places) .fits .allowed .turn)
+  apart : {m : ℕ} {v : List ℕ} {q : Position} → PutAt R x m v q → l ≢ m →
+      (u w d : ℕ) → Inside (moved R o p) u w d → ¬ Inside (moved R v q) u w d
+  apart {m} {v} {q} b ne u w d i j =
+      ⊎-elim (λ h. t .no-point-in-two (x .count) l m o v p q u w d (omega arith) h (lies a) (lies b) i j)
+      (⊎-elim (λ h. ne h) (λ h. t .no-point-in-two (x .count) m l v o q p u w d (omega arith) h (lies b) (lies a) j i)) (compare3 l m)
+
+  -- a piece whose outline draws nothing twice draws nothing twice where it is put
+  put-once : DrawnOnce o → DrawnOnce (moved R o p)
+  put-once = moved-once R o p (t .in-turn l o p (a .is-call) (a .puts))
 
 pub knife-safe : Knife-safe
 unfolding Knife-safe
@@ -33,7 +43,7 @@ knife-safe W R N x t =
       rises = λ a b ne. rise-apart _ _ (apart t a b ne);
       border = λ a b ne. border-apart _ _ (apart t a b ne);
       whole = λ a b ne once i u v d is-edge ends on.
-          border-apart _ _ (apart t a b ne) u v d (once-touches _ (placed-once t a once) i is-edge ends u v d on);
+          border-apart _ _ (apart t a b ne) u v d (once-touches _ (put-once t a once) i is-edge ends u v d on);
     }
 
 pub list-knife-safe : List-knife-safe
@@ -41,6 +51,7 @@ unfolding List-knife-safe Knife-safe Demand3-holds
 list-knife-safe W R N x t = knife-safe W R N x (demand3-holds W R N x t)
 
 pub lay-knife-safe : Lay-knife-safe
-unfolding Lay-knife-safe Knife-safe Lay-demand3
+unfolding Lay-knife-safe Lay-is-a-list List-knife-safe
 lay-knife-safe b s out work t s' out' work' x =
-    let r = lay-demand3 b s out work t s' out' work' x in (r .0, knife-safe _ _ _ _ (r .1))
+    let l = lay-is-a-list b s out work t s' out' work' x in
+    (l, list-knife-safe (sheetW b) (sheetR b) (sheetN b) (asCalls (l .list)) (as-trace (l .steps)))

@@ -1,5 +1,5 @@
--- The knife over a whole list of calls: where it follows an edge of a placed piece that bounds the piece's inside, it is never in the
--- interior of another placed piece. Where an outline draws nothing twice, each of its edges bounds its inside. Assumes nothing.
+-- The knife over a whole list of calls: where it follows an edge of a piece, placed or committed, that bounds the piece's inside, it is
+-- never in the interior of another such piece. Where an outline draws nothing twice, each of its edges bounds its inside. Assumes nothing.
 use mathlib.Core.Logic.{_≢_, _⊎_}
 use mathlib.Core.List.{List}
 use Prim.Native.Nat.{ℕ, _*_, _<_}
@@ -11,8 +11,9 @@ use Rattle.defs.specs.Meaning.Placing.{moved}
 use Rattle.defs.specs.Meaning.Sheet.{sheetR}
 use Rattle.defs.specs.Computing.Lay.{LayStep}
 use Rattle.strokes.specs.Stroke.{OnEdge, DrawnOnce}
-use Rattle.claims.specs.Trace.{Calls, Trace, Places}
+use Rattle.claims.specs.Trace.{Calls, Trace, Puts}
 use Rattle.claims.specs.Demand3.{Demand3}
+use Rattle.claims.specs.Places.{asCalls}
 use Rattle.claims.specs.Laying.{LaysList}
 use Rattle.knife.specs.Knife.{Touches, Interior, EdgePoint, RisePoint}
 
@@ -21,40 +22,35 @@ abbrev pub HasEnds : Edge → Type 0
 HasEnds e = (e .xl ≢ e .xr) ⊎ (e .yl ≢ e .yr)
 
 module _ (R : ℕ) (x : Calls) where
-  -- call l places its piece at p
-  pub record PlacedAt (l : ℕ) (p : Position) : Type 0 where
+  -- call l puts outline o at p: a granted place or commit
+  pub record PutAt (l : ℕ) (o : List ℕ) (p : Position) : Type 0 where
     pub is-call : l < x .count
-    pub places : Places (x .call l) p
-
-  -- the outline of call l, moved to p
-  abbrev pub piece : ℕ → Position → List ℕ
-  piece l p = moved R (x .call l .outline) p
+    pub puts : Puts (x .call l) o p
 
   pub record KnifeSafe : Type 0 where
     -- a point of an edge, with x not whole
     pub edges :
-        {l m : ℕ} {p q : Position} → PlacedAt l p → PlacedAt m q → l ≢ m →
-        (a b d : ℕ) → EdgePoint (piece l p) a b d → ¬ Inside (piece m q) a b d
+        {l m : ℕ} {o v : List ℕ} {p q : Position} → PutAt l o p → PutAt m v q → l ≢ m →
+        (a b d : ℕ) → EdgePoint (moved R o p) a b d → ¬ Inside (moved R v q) a b d
     -- a point of a vertical edge, with x = k
     pub rises :
-        {l m : ℕ} {p q : Position} → PlacedAt l p → PlacedAt m q → l ≢ m →
-        (k b d : ℕ) → RisePoint (piece l p) k b d → ¬ Interior (piece m q) (k * d) b d
+        {l m : ℕ} {o v : List ℕ} {p q : Position} → PutAt l o p → PutAt m v q → l ≢ m →
+        (k b d : ℕ) → RisePoint (moved R o p) k b d → ¬ Interior (moved R v q) (k * d) b d
     -- any point that points inside come as near to as one likes
     pub border :
-        {l m : ℕ} {p q : Position} → PlacedAt l p → PlacedAt m q → l ≢ m →
-        (a b d : ℕ) → Touches (piece l p) a b d → ¬ Interior (piece m q) a b d
+        {l m : ℕ} {o v : List ℕ} {p q : Position} → PutAt l o p → PutAt m v q → l ≢ m →
+        (a b d : ℕ) → Touches (moved R o p) a b d → ¬ Interior (moved R v q) a b d
     -- an outline, as it was lent, that draws nothing twice: any point of any edge, vertices too
     pub whole :
-        {l m : ℕ} {p q : Position} → PlacedAt l p → PlacedAt m q → l ≢ m →
-        DrawnOnce (x .call l .outline) →
-        (i a b d : ℕ) → i < sides (piece l p) → HasEnds (edgeAt (piece l p) i) → OnEdge (edgeAt (piece l p) i) a b d →
-        ¬ Interior (piece m q) a b d
+        {l m : ℕ} {o v : List ℕ} {p q : Position} → PutAt l o p → PutAt m v q → l ≢ m → DrawnOnce o →
+        (i a b d : ℕ) → i < sides (moved R o p) → HasEnds (edgeAt (moved R o p) i) → OnEdge (edgeAt (moved R o p) i) a b d →
+        ¬ Interior (moved R v q) a b d
 
 -- for every list of calls of which demand 3 holds, by whatever program
 unfoldable pub Knife-safe : Type 0
 Knife-safe = (W R N : ℕ) (x : Calls) → Demand3 W R N x → KnifeSafe R x
 
--- so for every list of place calls,
+-- so for every list of place, ask and commit calls,
 unfoldable pub List-knife-safe : Type 0
 List-knife-safe = (W R N : ℕ) (x : Calls) → Trace W R N x → KnifeSafe R x
 
@@ -62,4 +58,4 @@ List-knife-safe = (W R N : ℕ) (x : Calls) → Trace W R N x → KnifeSafe R x
 unfoldable pub Lay-knife-safe : Type 0
 Lay-knife-safe =
     (b s out work : List ℕ) (t : Totals) (s' out' work' : List ℕ) →
-    LayStep b s out work (Laid t) s' out' work' → (l : LaysList b s t s' out' work) × KnifeSafe (sheetR b) (l .list)
+    LayStep b s out work (Laid t) s' out' work' → (l : LaysList b s t s' out' work) × KnifeSafe (sheetR b) (asCalls (l .list))

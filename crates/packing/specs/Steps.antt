@@ -5,14 +5,17 @@ use Rattle.defs.specs.declared.Laying.{Laying}
 use Rattle.defs.specs.declared.Opening.{Opening}
 use Rattle.defs.specs.declared.Covering.{Covering}
 use Rattle.defs.specs.declared.Placing.{Placing}
+use Rattle.defs.specs.declared.Position.{Position}
+use Rattle.defs.specs.declared.Asking.{Asking}
+use Rattle.defs.specs.declared.Committing.{Committing}
 use Rattle.defs.specs.declared.Reading.{Reading}
 use Rattle.defs.specs.declared.Writing.{Writing}
 use Rattle.defs.specs.declared.Retracing.{Retracing}
-use Rattle.defs.specs.Answer.{opening, covering, placing, reading, writing, laying, retracing}
-use Rattle.defs.specs.Computing.Calls.{OpenStep, CoverStep, PlaceStep}
+use Rattle.defs.specs.Answer.{opening, covering, placing, asking, committing, reading, writing, laying, retracing}
+use Rattle.defs.specs.Computing.Calls.{OpenStep, CoverStep, PlaceStep, AskStep, CommitStep}
 use Rattle.defs.specs.Computing.Lay.{LayStep}
 use Rattle.defs.specs.Computing.Sheets.{ReadStep, WriteStep}
-use Rattle.defs.specs.Computing.Bytes.{OpenBytesStep, PlaceBytesStep, LayBytesStep}
+use Rattle.defs.specs.Computing.Bytes.{OnBytes, OpenBytesStep, LayBytesStep}
 use Rattle.strokes.specs.Retrace.{RetraceStep}
 use Rattle.packing.specs.Packed.{Packs, PacksWide}
 
@@ -32,6 +35,17 @@ pub record PlacePacked (s o : List ℕ) (mask : ℕ) (work : List ℕ) (n : ℕ)
   pub answer : Placing
   pub step : PlaceStep s o mask work answer s' work'
   pub packs : Packs n (placing answer)
+
+-- turn, column, height after the number 0
+pub record AskPacked (s o : List ℕ) (mask : ℕ) (work : List ℕ) (n : ℕ) (s' work' : List ℕ) : Type 0 where
+  pub answer : Asking
+  pub step : AskStep s o mask work answer s' work'
+  pub packs : Packs n (asking answer)
+
+pub record CommitPacked (s o : List ℕ) (p : Position) (work : List ℕ) (n : ℕ) (s' work' : List ℕ) : Type 0 where
+  pub answer : Committing
+  pub step : CommitStep s o p work answer s' work'
+  pub packs : Packs n (committing answer)
 
 -- W, R, N after the number 0
 pub record ReadPacked (b out : List ℕ) (n : ℕ) (out' : List ℕ) : Type 0 where
@@ -64,10 +78,14 @@ pub record OpenBytesPacked (W R N : ℕ) (strip : List ℕ) (n : ℕ) (strip' : 
   pub step : OpenBytesStep W R N strip answer strip'
   pub packs : Packs n (opening answer)
 
-pub record PlaceBytesPacked (strip o : List ℕ) (mask : ℕ) (work : List ℕ) (n : ℕ) (strip' work' : List ℕ) : Type 0 where
-  pub answer : Placing
-  pub step : PlaceBytesStep strip o mask work answer strip' work'
-  pub packs : Packs n (placing answer)
+abbrev pub PlaceBytesPacked : List ℕ → List ℕ → ℕ → List ℕ → ℕ → List ℕ → List ℕ → Type 0
+PlaceBytesPacked strip o mask work n strip' work' = OnBytes (λ s v w s' w'. PlacePacked s v mask w n s' w') strip o work strip' work'
+
+abbrev pub AskBytesPacked : List ℕ → List ℕ → ℕ → List ℕ → ℕ → List ℕ → List ℕ → Type 0
+AskBytesPacked strip o mask work n strip' work' = OnBytes (λ s v w s' w'. AskPacked s v mask w n s' w') strip o work strip' work'
+
+abbrev pub CommitBytesPacked : List ℕ → List ℕ → Position → List ℕ → ℕ → List ℕ → List ℕ → Type 0
+CommitBytesPacked strip o p work n strip' work' = OnBytes (λ s v w s' w'. CommitPacked s v p w n s' w') strip o work strip' work'
 
 pub record LayBytesPacked (sheet strip out work : List ℕ) (n : ℕ) (strip' out' work' : List ℕ) : Type 0 where
   pub answer : Laying

@@ -1,7 +1,9 @@
 // An answer of several numbers in one of 64 bits.
 
-ghost use Rattle.defs.specs.Answer.{opening, covering, placing, reading, writing, laying, retracing};
+ghost use Rattle.defs.specs.Answer.{opening, covering, placing, asking, committing, reading, writing, laying, retracing};
 ghost use Rattle.packing.specs.Packed.{Four, Packs, PacksWide};
+use defs::Asking;
+use defs::Committing;
 use defs::Covering;
 use defs::Laying;
 use defs::Opening;
@@ -47,6 +49,24 @@ pub fn pack_placing(a: Placing) -> u64
     match a {
         Placing::Placed(p) => pack(0, p.turn, p.column, p.height),
         Placing::Refused(f) => pack_refusal(f),
+    }
+}
+
+pub fn pack_asking(a: Asking) -> u64
+    ensures { λ r. ⌜ Packs r (asking a) ⌝ }
+{
+    match a {
+        Asking::Found(p) => pack(0, p.turn, p.column, p.height),
+        Asking::Refused(f) => pack_refusal(f),
+    }
+}
+
+pub fn pack_committing(a: Committing) -> u64
+    ensures { λ r. ⌜ Packs r (committing a) ⌝ }
+{
+    match a {
+        Committing::Committed => 0,
+        Committing::Refused(f) => pack_refusal(f),
     }
 }
 

@@ -1,4 +1,4 @@
-// The best position of an outline on a table of runs, and the table with the piece entered there: what place and lay share.
+// The best position of an outline on a table of runs, and the table with the piece entered there: what place, commit and lay share.
 
 ghost use mathlib.Core.Path.{_≡_};
 ghost use Prim.Native.Nat.{_*_, _≤_};
@@ -52,7 +52,7 @@ fn stand_runs(o: &[u16], b: Bounds, t: u16, r: u16, s: Standing, work: &mut [u16
 }
 
 // Question 14 of position p; the next table has the piece entered there.
-fn enter_at(
+pub fn enter_at(
     g: Figures,
     q: usize,
     first: &[u16],

@@ -8,6 +8,8 @@ use Rattle.claims.proofs.Asked.{one-answer}
 use Rattle.claims.proofs.CoverCells.{demand2-cells}
 use Rattle.claims.proofs.SheetsBack.{demand2-sheets, demand2-again}
 use Rattle.claims.proofs.Whole.{demand3-holds}
+use Rattle.claims.proofs.PlaceLists.{place-demand3-holds, places-follow}
+use Rattle.claims.proofs.AskCommit.{place-is-ask-and-commit, commit-as-asked}
 use Rattle.claims.proofs.LayList.{lay-demand3}
 use Rattle.claims.proofs.Wrong.{wrong-lists}
 use Rattle.claims.proofs.Choice.{only-numbers-open}
@@ -31,7 +33,11 @@ promises =
       sheets = demand2-sheets;
       sheets-again = demand2-again;
       list = demand3-holds;
+      place-list = place-demand3-holds;
+      follows = places-follow;
       job = lay-demand3;
+      ask-and-commit = place-is-ask-and-commit;
+      asked-commit = commit-as-asked;
       wrong = wrong-lists;
       numbering = only-numbers-open;
       any-numbering = any-numbers;

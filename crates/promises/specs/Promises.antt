@@ -1,8 +1,8 @@
 -- All that is promised, on one page; which theorem holds each promise is in proofs/Promises. A call's contract is its step, and nothing
--- else, for every input: open::open OpenStep, cover::cover CoverStep, place::place PlaceStep, reads::read ReadStep, writes::write
--- WriteStep, laying::lay LayStep, retrace::retrace RetraceStep; vikelodu's C functions the same steps, packed (packing/specs/Steps);
--- text::lay_text, what program lay prints, layText. The promises are about steps, so they hold of every program whose calls keep these
--- contracts. Assumes nothing.
+-- else, for every input: open::open OpenStep, cover::cover CoverStep, place::place PlaceStep, ask::ask AskStep, commit::commit
+-- CommitStep, reads::read ReadStep, writes::write WriteStep, laying::lay LayStep, retrace::retrace RetraceStep; vikelodu's C functions
+-- the same steps, packed (packing/specs/Steps); text::lay_text, what program lay prints, layText. The promises are about steps, so they
+-- hold of every program whose calls keep these contracts. Assumes nothing.
 use mathlib.Core.Logic.{_↔_}
 use mathlib.Core.List.{List}
 use Prim.Native.Nat.{ℕ, _≤_, _<_}
@@ -15,6 +15,8 @@ use Rattle.claims.specs.Demand1.{Demand1}
 use Rattle.claims.specs.Numbers.{Demand1-numbers, One-answer}
 use Rattle.claims.specs.Demand2.{Demand2-cells, Demand2-sheets, Demand2-again}
 use Rattle.claims.specs.Demand3.{Demand3-holds}
+use Rattle.claims.specs.Places.{PlaceDemand3-holds, Places-follow}
+use Rattle.claims.specs.Asking.{Place-is-ask-and-commit, Commit-as-asked}
 use Rattle.claims.specs.Laying.{Lay-demand3}
 use Rattle.claims.specs.Wrong.{WrongLists}
 use Rattle.claims.specs.Choice.{OnlyNumbersOpen, AnyNumbers}
@@ -36,18 +38,23 @@ pub record Promises : Type 1 where
       Question11 o mask R ↔ Question11 o mask' R'
   pub enough : (o : List ℕ) (mask R : ℕ) → Question7 o → Question8 o → Question10 o mask → 1 ≤ R → Question12 o mask R 1536000
   -- Demand 2. Cover gives the cells that hold a point inside; sheets read back. What a strip holds is in demand 3, and for one place
-  -- call on any strip in `numbers` (place-alone).
+  -- or commit call on any strip in `numbers` (place-alone, commit-alone).
   pub cells : Demand2-cells
   pub sheets : Demand2-sheets
   pub sheets-again : Demand2-again
-  -- Demand 3, of every list of place calls and of every laid job; the buying office's wrong programs break it; only record numbers and
-  -- the order of the free chain are open.
+  -- Demand 3, of every list of place, ask and commit calls; so, in document 01's own words, of place calls alone, and of every laid job.
   pub list : Demand3-holds
+  pub place-list : PlaceDemand3-holds
+  pub follows : Places-follow
   pub job : Lay-demand3
+  -- Place is ask and then commit at its answer; a commit at an ask's answer is granted, if its work buffer is no shorter.
+  pub ask-and-commit : Place-is-ask-and-commit
+  pub asked-commit : Commit-as-asked
+  -- The buying office's wrong programs break demand 3; only record numbers and the order of the free chain are open.
   pub wrong : WrongLists
   pub numbering : OnlyNumbersOpen
   pub any-numbering : AnyNumbers
-  -- The knife, of every list of which demand 3 holds, so of lists of place calls and of laid jobs; and what an outline draws twice, the
+  -- The knife, of every list of which demand 3 holds, so of lists of calls and of laid jobs; and what an outline draws twice, the
   -- same in every turn.
   pub knife : Knife-safe
   pub list-knife : List-knife-safe

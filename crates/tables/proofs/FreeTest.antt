@@ -1,5 +1,5 @@
 -- The test of one position decides whether it is free: two stretches that have rows meet exactly when some row lies in both, so the
--- test looks for a row that is the moved piece's and the table's, column by column.
+-- test looks for a row that is the moved piece's and the table's, column by column. With it question 18.
 -- Assumes nothing.
 use mathlib.Core.Path.{_≡_, refl, sym, ap, subst, _∙_}
 use mathlib.Core.Logic.{inl, inr, ⊎-elim}
@@ -11,14 +11,16 @@ use lib.ListN.{getD}
 use Rattle.defs.specs.declared.Position.{Position}
 use Rattle.defs.specs.Meaning.Outline.{sides, KeepsOrder}
 use Rattle.defs.specs.Meaning.Turn.{turned, extentX, extentY}
-use Rattle.defs.specs.Meaning.Placing.{columnsFor, Free}
+use Rattle.defs.specs.Meaning.Placing.{columnsFor, endColumn, top, Free}
+use Rattle.defs.specs.Meaning.Question.{Question18}
 use Rattle.defs.specs.Computing.Test.{any}
 use Rattle.defs.specs.Computing.Cells.{Rows, coveredb, stretches, pieceRuns}
 use Rattle.defs.specs.Computing.Search.{meets, freeb, dropN}
+use Rattle.defs.specs.Computing.Calls.{q18b}
 use Rattle.geom.proofs.Stretches.{Valid, Among, among-of, of-among}
 use Rattle.geom.proofs.RunLists.{apart-valid, stretches-apart}
 use Rattle.laws.proofs.Lists.{listFrom-each}
-use Rattle.laws.proofs.Tests.{Decides, ltb-decides, and-decides, or-decides, not-decides, decides-by}
+use Rattle.laws.proofs.Tests.{Decides, leb-decides, ltb-decides, and-decides, or-decides, not-decides, decides-by}
 use Rattle.tables.proofs.Tables.{In, Table}
 use Rattle.tables.proofs.Moved.{moved-cells}
 
@@ -107,3 +109,10 @@ module _ (W R N : ℕ) (held : List (List Rows)) (o : List ℕ) (p : Position)
       (of-among _ (s .0 + p .height) (rw dropN-at at (s .2))))
       (test-by-column (p .height) (pieceRuns o (p .turn) R) (dropN (p .column) held) (runs-valid o (p .turn) R)
       (λ i. subst Valid (sym (dropN-at (p .column) held i)) (table .valid (p .column + i))))
+
+  pub question-18 : Decides (q18b W R N held o p) (Question18 W R N (In held) o p)
+  unfolding q18b endColumn top
+  question-18 =
+      decides-by (λ h. record { on-strip = record { columns = h .0 .0; rows = h .0 .1 }; free = h .1 })
+      (λ q. ((q .on-strip .columns, q .on-strip .rows), q .free))
+      (and-decides (and-decides (leb-decides _ _) (leb-decides _ _)) free-decides)

@@ -1,6 +1,7 @@
 // The calls as C functions: an answer of several numbers in one of 64 bits.
 
-ghost use Rattle.packing.specs.Steps.{OpenPacked, CoverPacked, PlacePacked, ReadPacked, WritePacked, LayPacked, RetracePacked, OpenBytesPacked, PlaceBytesPacked, LayBytesPacked};
+ghost use Rattle.packing.specs.Steps.{OpenPacked, CoverPacked, PlacePacked, AskPacked, CommitPacked, ReadPacked, WritePacked, LayPacked, RetracePacked, OpenBytesPacked, PlaceBytesPacked, AskBytesPacked, CommitBytesPacked, LayBytesPacked};
+use defs::Position;
 
 // The open call.
 #[no_mangle]
@@ -23,6 +24,36 @@ pub extern "C" fn vikelodu_place(
 {
     let a = place::place(strip, outline, mask, work);
     packing::pack_placing(a)
+}
+
+// The ask call: turn, column and height after the number 0. The strip is only read.
+#[no_mangle]
+pub extern "C" fn vikelodu_ask(strip: &[u16], outline: &[u16], mask: u16, work: &mut [u16]) -> u64
+    ensures { λ r. ⌜ AskPacked (now (strip .entry)) (now (outline .entry)) mask (now (work .entry)) r (now (strip .exit)) (now (work .exit)) ⌝ }
+{
+    let a = ask::ask(strip, outline, mask, work);
+    packing::pack_asking(a)
+}
+
+// The commit call.
+#[no_mangle]
+pub extern "C" fn vikelodu_commit(
+    strip: &mut [u16],
+    outline: &[u16],
+    turn: u16,
+    column: u16,
+    height: u16,
+    work: &mut [u16],
+) -> u64
+    ensures { λ r. ⌜ CommitPacked (now (strip .entry)) (now (outline .entry)) (record { turn = turn; column = column; height = height }) (now (work .entry)) r (now (strip .exit)) (now (work .exit)) ⌝ }
+{
+    let p = Position {
+        turn: turn,
+        column: column,
+        height: height,
+    };
+    let a = commit::commit(strip, outline, p, work);
+    packing::pack_committing(a)
 }
 
 // The cover call: the number of runs in the high 32 bits.
@@ -110,8 +141,43 @@ pub extern "C" fn vikelodu_place_bytes(
 ) -> u64
     ensures { λ r. ⌜ PlaceBytesPacked (now (strip .entry)) (now (outline .entry)) mask (now (work .entry)) r (now (strip .exit)) (now (work .exit)) ⌝ }
 {
-    let a = bytecalls::place_bytes(strip, outline, mask, work);
+    let a = byteput::place_bytes(strip, outline, mask, work);
     packing::pack_placing(a)
+}
+
+// The ask call on buffers passed as bytes.
+#[no_mangle]
+pub extern "C" fn vikelodu_ask_bytes(
+    strip: &[u8],
+    outline: &[u8],
+    mask: u16,
+    work: &mut [u8],
+) -> u64
+    ensures { λ r. ⌜ AskBytesPacked (now (strip .entry)) (now (outline .entry)) mask (now (work .entry)) r (now (strip .exit)) (now (work .exit)) ⌝ }
+{
+    let a = byteput::ask_bytes(strip, outline, mask, work);
+    packing::pack_asking(a)
+}
+
+// The commit call on buffers passed as bytes.
+#[no_mangle]
+pub extern "C" fn vikelodu_commit_bytes(
+    strip: &mut [u8],
+    outline: &[u8],
+    turn: u16,
+    column: u16,
+    height: u16,
+    work: &mut [u8],
+) -> u64
+    ensures { λ r. ⌜ CommitBytesPacked (now (strip .entry)) (now (outline .entry)) (record { turn = turn; column = column; height = height }) (now (work .entry)) r (now (strip .exit)) (now (work .exit)) ⌝ }
+{
+    let p = Position {
+        turn: turn,
+        column: column,
+        height: height,
+    };
+    let a = byteput::commit_bytes(strip, outline, p, work);
+    packing::pack_committing(a)
 }
 
 // The lay call on buffers passed as bytes.

@@ -22,6 +22,26 @@ mod exported {
             work: *mut u16,
             work_words: usize,
         ) -> u64;
+        pub fn vikelodu_ask(
+            strip: *const u16,
+            strip_words: usize,
+            outline: *const u16,
+            outline_words: usize,
+            mask: u16,
+            work: *mut u16,
+            work_words: usize,
+        ) -> u64;
+        pub fn vikelodu_commit(
+            strip: *mut u16,
+            strip_words: usize,
+            outline: *const u16,
+            outline_words: usize,
+            turn: u16,
+            column: u16,
+            height: u16,
+            work: *mut u16,
+            work_words: usize,
+        ) -> u64;
         pub fn vikelodu_cover(
             outline: *const u16,
             outline_words: usize,
@@ -72,6 +92,26 @@ mod exported {
             work: *mut u8,
             work_bytes: usize,
         ) -> u64;
+        pub fn vikelodu_ask_bytes(
+            strip: *const u8,
+            strip_bytes: usize,
+            outline: *const u8,
+            outline_bytes: usize,
+            mask: u16,
+            work: *mut u8,
+            work_bytes: usize,
+        ) -> u64;
+        pub fn vikelodu_commit_bytes(
+            strip: *mut u8,
+            strip_bytes: usize,
+            outline: *const u8,
+            outline_bytes: usize,
+            turn: u16,
+            column: u16,
+            height: u16,
+            work: *mut u8,
+            work_bytes: usize,
+        ) -> u64;
         pub fn vikelodu_lay_bytes(
             sheet: *const u8,
             sheet_bytes: usize,
@@ -104,14 +144,14 @@ fn granted(answer: u64) -> Result<u64, Refusal> {
     })
 }
 
-/// Of open, on words or bytes.
-fn opened(answer: u64) -> Result<(), Refusal> {
+/// Of open and commit, which answer nothing but a grant.
+fn bare(answer: u64) -> Result<(), Refusal> {
     let answer = granted(answer)?;
     assert_eq!(answer, 0, "more than a grant: {answer:#x}");
     Ok(())
 }
 
-/// Of place.
+/// Of place and ask.
 fn placed(answer: u64) -> Result<Position, Refusal> {
     let answer = granted(answer)?;
     Ok(Position {
@@ -133,7 +173,7 @@ fn laid(answer: u64) -> Result<Totals, Refusal> {
 
 pub fn open(w: u16, r: u16, n: u16, strip: &mut [u16]) -> Result<(), Refusal> {
     // Sound: the function asks nothing of its caller, and reads and writes only what the slice lends.
-    opened(unsafe { exported::vikelodu_open(w, r, n, strip.as_mut_ptr(), strip.len()) })
+    bare(unsafe { exported::vikelodu_open(w, r, n, strip.as_mut_ptr(), strip.len()) })
 }
 
 pub fn place(
@@ -150,6 +190,48 @@ pub fn place(
             outline.as_ptr(),
             outline.len(),
             mask,
+            work.as_mut_ptr(),
+            work.len(),
+        )
+    })
+}
+
+pub fn ask(
+    strip: &[u16],
+    outline: &[u16],
+    mask: u16,
+    work: &mut [u16],
+) -> Result<Position, Refusal> {
+    // Sound, as above: the strip is lent to be read.
+    placed(unsafe {
+        exported::vikelodu_ask(
+            strip.as_ptr(),
+            strip.len(),
+            outline.as_ptr(),
+            outline.len(),
+            mask,
+            work.as_mut_ptr(),
+            work.len(),
+        )
+    })
+}
+
+pub fn commit(
+    strip: &mut [u16],
+    outline: &[u16],
+    position: Position,
+    work: &mut [u16],
+) -> Result<(), Refusal> {
+    // Sound, as above.
+    bare(unsafe {
+        exported::vikelodu_commit(
+            strip.as_mut_ptr(),
+            strip.len(),
+            outline.as_ptr(),
+            outline.len(),
+            position.turn,
+            position.column,
+            position.height,
             work.as_mut_ptr(),
             work.len(),
         )
@@ -247,7 +329,7 @@ pub fn retrace(outline: &[u16]) -> Result<Option<EdgePair>, Refusal> {
 
 pub fn open_bytes(w: u16, r: u16, n: u16, strip: &mut [u8]) -> Result<(), Refusal> {
     // Sound, as above: bytes stand at any address.
-    opened(unsafe { exported::vikelodu_open_bytes(w, r, n, strip.as_mut_ptr(), strip.len()) })
+    bare(unsafe { exported::vikelodu_open_bytes(w, r, n, strip.as_mut_ptr(), strip.len()) })
 }
 
 pub fn place_bytes(
@@ -264,6 +346,48 @@ pub fn place_bytes(
             outline.as_ptr(),
             outline.len(),
             mask,
+            work.as_mut_ptr(),
+            work.len(),
+        )
+    })
+}
+
+pub fn ask_bytes(
+    strip: &[u8],
+    outline: &[u8],
+    mask: u16,
+    work: &mut [u8],
+) -> Result<Position, Refusal> {
+    // Sound, as above.
+    placed(unsafe {
+        exported::vikelodu_ask_bytes(
+            strip.as_ptr(),
+            strip.len(),
+            outline.as_ptr(),
+            outline.len(),
+            mask,
+            work.as_mut_ptr(),
+            work.len(),
+        )
+    })
+}
+
+pub fn commit_bytes(
+    strip: &mut [u8],
+    outline: &[u8],
+    position: Position,
+    work: &mut [u8],
+) -> Result<(), Refusal> {
+    // Sound, as above.
+    bare(unsafe {
+        exported::vikelodu_commit_bytes(
+            strip.as_mut_ptr(),
+            strip.len(),
+            outline.as_ptr(),
+            outline.len(),
+            position.turn,
+            position.column,
+            position.height,
             work.as_mut_ptr(),
             work.len(),
         )

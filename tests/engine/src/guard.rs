@@ -1,7 +1,9 @@
 //! Buffers between two pages that cannot be read, directly before the one or
-//! directly after the other, so that an access past that end is a crash.
+//! directly after the other, so that an access past that end is a crash. Where a
+//! buffer is lent to be read only, a write to it is one, too.
 
 use std::ffi::c_void;
+use std::fmt::Debug;
 use std::ops::{Deref, DerefMut, Range};
 use std::slice;
 
@@ -23,11 +25,12 @@ mod system {
 }
 
 const PAGE: usize = 4096;
+const READ: i32 = 1;
 const READ_WRITE: i32 = 3;
 const PRIVATE_ANONYMOUS: i32 = 0x22;
 
 /// What a buffer holds: bytes or words.
-pub trait Unit: Copy + PartialEq {
+pub trait Unit: Copy + PartialEq + Debug {
     /// Stands before a buffer and must stay.
     const MARK: Self;
 }
@@ -75,6 +78,15 @@ impl<T: Unit> Guarded<T> {
             };
             slice::from_raw_parts_mut(start, held.len()).copy_from_slice(held);
             guarded
+        }
+    }
+
+    /// Lets the pages between be read, or read and written.
+    fn allow(&mut self, access: i32) {
+        let between = self.size - 2 * PAGE;
+        unsafe {
+            let first = self.pages.cast::<u8>().add(PAGE);
+            assert_eq!(system::mprotect(first.cast(), between, access), 0);
         }
     }
 }
@@ -166,14 +178,28 @@ impl<T: Unit> Room<T> {
         lent
     }
 
+    /// A call with a buffer that holds this and that cannot be written meanwhile.
+    pub fn lend_to_read<A>(&mut self, end: End, held: &[T], call: impl FnOnce(&[T]) -> A) -> A {
+        self.lend_at(end, held);
+        self.pages.allow(READ);
+        let answer = call(&self.pages[self.place(end, held.len())]);
+        self.pages.allow(READ_WRITE);
+        answer
+    }
+
     /// A buffer directly before the page after it.
     pub fn lend(&mut self, held: &[T]) -> &mut [T] {
         self.lend_at(End::Before, held)
     }
 
+    /// What a buffer of this length holds there.
+    pub fn held_at(&self, end: End, length: usize) -> &[T] {
+        &self.pages[self.place(end, length)]
+    }
+
     /// What the last buffer holds, which had this length.
     pub fn held(&self, length: usize) -> &[T] {
-        &self.pages[self.pages.len() - length..]
+        self.held_at(End::Before, length)
     }
 
     /// Whether the marks beside a buffer of this length stayed.

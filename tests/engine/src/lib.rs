@@ -18,6 +18,6 @@ pub mod plain_sheet;
 pub mod plain_strip;
 pub mod programs;
 
-pub use calls::{cover, lay, open, place, read, retrace, write};
-pub use calls::{lay_bytes, open_bytes, place_bytes};
+pub use calls::{ask, commit, cover, lay, open, place, read, retrace, write};
+pub use calls::{ask_bytes, commit_bytes, lay_bytes, open_bytes, place_bytes};
 pub use inner::{decoded, rewrite, well_formed};

@@ -1,18 +1,19 @@
-//! Open, place and lay on buffers of bytes against the reference program, and beside
-//! the calls on words: answer and every byte of every buffer. Buffers stand at a page
-//! that cannot be read or one byte from it, so at even and at odd addresses, and their
-//! lengths are even and odd.
+//! Open, place, ask, commit and lay on buffers of bytes against the reference program,
+//! and beside the calls on words: answer and every byte of every buffer. Buffers stand
+//! at a page that cannot be read or one byte from it, so at even and at odd addresses,
+//! and their lengths are even and odd.
 
 use engine::guard::{End, Room};
-use reference::bytes::{lay_bytes, open_bytes, place_bytes};
-use reference::figures::{no, Piece};
+use reference::bytes::{ask_bytes, commit_bytes, lay_bytes, open_bytes, place_bytes};
+use reference::figures::{no, Piece, NUMBERS};
 use reference::generate::outlines::zigzag_of;
 use reference::generate::{
-    any_figures, any_mask, any_outline, change_words, damaged_sheet, damaged_strip, job,
-    place_calls, small_figures, sound_sheet, sound_strip, strip_with, Damage, Job, PlaceCall,
-    Random, SheetDamage, SheetPlan, StripFigures,
+    any_figures, any_mask, any_outline, any_turn, change_words, damaged_sheet, damaged_strip, job,
+    small_figures, sound_outline, sound_sheet, sound_strip, strip_with, Call, CommitCall, Damage,
+    Job, MixedList, PlaceCall, Random, SheetDamage, SheetPlan, StripFigures,
 };
 use reference::{runs, Figures, Position, Refusal, Totals};
+use std::fmt::Debug;
 
 /// A buffer of bytes between two pages that cannot be read.
 struct Buffer {
@@ -51,6 +52,28 @@ impl Buffer {
     }
 }
 
+/// How often each number came; 0 is granted.
+type Numbers = [u32; NUMBERS];
+
+/// Each of these numbers came at least so often.
+fn came(all: &Numbers, least: u32, numbers: &[usize]) {
+    for &number in numbers {
+        let times = all[number];
+        assert!(times >= least, "{number} came {times} times");
+    }
+}
+
+/// Place, ask and commit on bytes or words: a mask or a position stands after the
+/// outline.
+type Laying<U, X, A> = fn(&mut [U], &[U], X, &mut [U]) -> Result<A, Refusal>;
+
+/// One of them in each program.
+struct Programs<X, A> {
+    engine: Laying<u8, X, A>,
+    reference: Laying<u8, X, A>,
+    on_words: Laying<u16, X, A>,
+}
+
 /// The engine beside the reference program, and beside itself on words.
 struct Both {
     random: Random,
@@ -60,8 +83,10 @@ struct Both {
     output: Buffer,
     work: Buffer,
     calls: u32,
-    /// How often each number came; 0 is granted.
-    numbers: [u32; 18],
+    /// Of open, place and lay.
+    numbers: Numbers,
+    asks: Numbers,
+    commits: Numbers,
 }
 
 /// The bytes of the buffers lent to lay.
@@ -70,6 +95,10 @@ struct Lengths {
     strip: usize,
     output: usize,
     work: usize,
+}
+
+fn number<T>(answer: &Result<T, Refusal>) -> usize {
+    answer.as_ref().map_or_else(|no| no.number.into(), |_| 0)
 }
 
 /// What a buffer holds before a call: no byte is 0, so that a byte cleared shows.
@@ -103,14 +132,15 @@ impl Both {
             output: Buffer::new(10_001),
             work: Buffer::new(4_000_001),
             calls: 0,
-            numbers: [0; 18],
+            numbers: [0; NUMBERS],
+            asks: [0; NUMBERS],
+            commits: [0; NUMBERS],
         }
     }
 
     fn count<T>(&mut self, answer: &Result<T, Refusal>) {
-        let number = answer.as_ref().err().map_or(0, |refusal| refusal.number);
         self.calls += 1;
-        self.numbers[usize::from(number)] += 1;
+        self.numbers[number(answer)] += 1;
     }
 
     /// Opens a strip of so many bytes.
@@ -136,25 +166,26 @@ impl Both {
         answer
     }
 
-    /// Places on this strip, which is left as the reference program leaves it, with a
+    /// One call on this strip, which is left as the reference program leaves it, with a
     /// work buffer of so many bytes.
-    fn place(
+    fn lay_piece<X: Copy + Debug, A: PartialEq + Debug>(
         &mut self,
+        programs: Programs<X, A>,
         strip: &mut [u8],
         outline: &[u8],
-        mask: u16,
+        with: X,
         work: usize,
-    ) -> Result<Position, Refusal> {
+    ) -> Result<A, Refusal> {
         let case = || {
             let (outline, strip) = (shown(outline), shown(strip));
-            format!("{outline:?} mask {mask} work {work} on {strip:?}")
+            format!("{with:?} {outline:?} work {work} on {strip:?}")
         };
         let (mut after, mut work_after) = (strip.to_vec(), other_bytes(work));
-        let answer = place_bytes(&mut after, outline, mask, &mut work_after);
+        let answer = (programs.reference)(&mut after, outline, with, &mut work_after);
         let lent_strip = self.strip.lend(&mut self.random, strip);
         let lent_outline = self.outline.lend(&mut self.random, outline);
         let lent_work = self.work.lend(&mut self.random, &other_bytes(work));
-        let ours = engine::place_bytes(lent_strip, lent_outline, mask, lent_work);
+        let ours = (programs.engine)(lent_strip, lent_outline, with, lent_work);
         assert_eq!(ours, answer, "{}", case());
         assert!(*lent_strip == *after, "strip: {}", case());
         assert!(*lent_outline == *outline, "outline: {}", case());
@@ -163,12 +194,92 @@ impl Both {
         assert!(kept, "beside a buffer: {}", case());
 
         let (mut on_words, mut work_words) = (words(strip), words(&other_bytes(work)));
-        let on_words_answer = engine::place(&mut on_words, &words(outline), mask, &mut work_words);
+        let on_words_answer =
+            (programs.on_words)(&mut on_words, &words(outline), with, &mut work_words);
         assert_eq!(on_words_answer, answer, "on words: {}", case());
         assert!(on_words == words(&after), "words of the strip: {}", case());
         assert!(work_words == words(&work_after), "words: {}", case());
-        self.count(&answer);
         strip.copy_from_slice(&after);
+        answer
+    }
+
+    fn place(
+        &mut self,
+        strip: &mut [u8],
+        outline: &[u8],
+        mask: u16,
+        work: usize,
+    ) -> Result<Position, Refusal> {
+        let programs = Programs {
+            engine: engine::place_bytes,
+            reference: place_bytes,
+            on_words: engine::place,
+        };
+        let answer = self.lay_piece(programs, strip, outline, mask, work);
+        self.count(&answer);
+        answer
+    }
+
+    fn ask(
+        &mut self,
+        strip: &[u8],
+        outline: &[u8],
+        mask: u16,
+        work: usize,
+    ) -> Result<Position, Refusal> {
+        let programs = Programs {
+            engine: |strip, outline, mask, work| engine::ask_bytes(strip, outline, mask, work),
+            reference: |strip, outline, mask, work| ask_bytes(strip, outline, mask, work),
+            on_words: |strip, outline, mask, work| engine::ask(strip, outline, mask, work),
+        };
+        let mut after = strip.to_vec();
+        let answer = self.lay_piece(programs, &mut after, outline, mask, work);
+        assert!(after == strip, "an ask changes no byte of the strip");
+        self.asks[number(&answer)] += 1;
+        answer
+    }
+
+    fn commit(
+        &mut self,
+        strip: &mut [u8],
+        outline: &[u8],
+        position: Position,
+        work: usize,
+    ) -> Result<(), Refusal> {
+        let programs = Programs {
+            engine: engine::commit_bytes,
+            reference: commit_bytes,
+            on_words: engine::commit,
+        };
+        let answer = self.lay_piece(programs, strip, outline, position, work);
+        self.commits[number(&answer)] += 1;
+        answer
+    }
+
+    /// Ask, place and commit with one turn allowed, each on a strip of its own; what
+    /// ask and place answer. A refused commit has their number, or 18 instead of 13.
+    fn in_each_way(
+        &mut self,
+        strip: &[u8],
+        outline: &[u8],
+        turn: u16,
+        work: usize,
+    ) -> Result<Position, Refusal> {
+        let (mut placed, mut committed) = (strip.to_vec(), strip.to_vec());
+        let answer = self.ask(strip, outline, 1 << turn, work);
+        assert_eq!(self.place(&mut placed, outline, 1 << turn, work), answer);
+        let first = Position {
+            turn,
+            column: 0,
+            height: 0,
+        };
+        let commit = self.commit(&mut committed, outline, answer.unwrap_or(first), work);
+        let instead = |refusal: Refusal| match refusal.number {
+            13 => no(18, 0),
+            _ => refusal,
+        };
+        assert_eq!(commit, answer.map(|_| ()).map_err(instead));
+        assert!(committed == placed);
         answer
     }
 
@@ -218,10 +329,7 @@ impl Both {
     /// Each of these numbers came at least so often.
     fn came(&self, least: u32, numbers: &[usize]) {
         println!("calls {}, numbers {:?}", self.calls, self.numbers);
-        for &number in numbers {
-            let times = self.numbers[number];
-            assert!(times >= least, "{number} came {times} times");
-        }
+        came(&self.numbers, least, numbers);
     }
 }
 
@@ -264,7 +372,7 @@ fn perhaps_odd(random: &mut Random, mut bytes: Vec<u8>) -> Vec<u8> {
     bytes
 }
 
-/// With over 9,000 work words place and lay on bytes keep the words that any outline
+/// With over 9,000 work words the calls on bytes that lay pieces keep the words that any outline
 /// needs on the stack, 3 MB, and a test's stack has 2 MB.
 fn on_large_stack(test: impl FnOnce() + Send + 'static) {
     on_stack(4 << 20, test)
@@ -340,31 +448,36 @@ fn strips_at_and_past_the_longest() {
     both.came(16, &[0, 4]);
 }
 
-// Place
-
-/// The bytes that question 12 asks for, of an outline in the limits.
-fn work_for(call: &PlaceCall, r: u16) -> usize {
-    let allowed = (0..4).filter(|turn| call.mask >> turn & 1 == 1);
-    let most = allowed.map(|turn| runs(&call.outline, turn, r).len()).max();
-    6 * most.unwrap_or(0)
-}
+// Place, ask and commit
 
 /// One call after another on a strip, with work buffers of every length up to what a
 /// few pieces need, just enough, and more.
 fn calls_on(both: &mut Both, random: &mut Random, strip: &mut [u8], count: usize) {
-    for call in place_calls(random, count, 9) {
-        let r = words(strip).get(1).copied().unwrap_or(1);
-        let small = call.outline.iter().all(|&word| word <= 16);
-        let needed = if small { work_for(&call, r) } else { 60 };
+    let mut list = MixedList::new(random, 9);
+    for _ in 0..count {
+        let call = list.next_call(random, &words(strip));
+        let (Call::Place(PlaceCall { outline, work, .. })
+        | Call::Ask(PlaceCall { outline, work, .. })
+        | Call::Commit(CommitCall { outline, work, .. })) = &call;
+        let outline = perhaps_odd(random, bytes(outline));
         let work = match random.index(8) {
             0 => random.index(8),
-            1 => random.index(needed + 9),
-            2 => 18_000,
-            3 => 18_001,
-            _ => nearly(random, needed),
+            1 => 18_001,
+            _ => nearly(random, 2 * work),
         };
-        let outline = perhaps_odd(random, bytes(&call.outline));
-        both.place(strip, &outline, call.mask, work).ok();
+        match &call {
+            Call::Place(call) => {
+                both.place(strip, &outline, call.mask, work).ok();
+            }
+            Call::Ask(call) => {
+                if let Ok(position) = both.ask(strip, &outline, call.mask, work) {
+                    list.found(call, position);
+                }
+            }
+            Call::Commit(call) => {
+                both.commit(strip, &outline, call.position, work).ok();
+            }
+        }
     }
 }
 
@@ -373,7 +486,7 @@ fn lists_of_calls() {
     on_large_stack(|| {
         let mut both = Both::new(511);
         let mut random = Random::new(512);
-        for _ in 0..1_500 {
+        for _ in 0..5_000 {
             let Figures {
                 width: w,
                 resolution: r,
@@ -382,10 +495,14 @@ fn lists_of_calls() {
             let q = random.between(1, 30) as usize;
             let mut strip = perhaps_odd(&mut random, other_bytes(strip_bytes(n, q)));
             assert_eq!(engine::open_bytes(w, r, n, &mut strip), Ok(()));
-            let count = random.between(1, 12) as usize;
+            let count = random.between(1, 20) as usize;
             calls_on(&mut both, &mut random, &mut strip, count);
         }
-        both.came(50, &[0, 7, 8, 9, 10, 11, 12, 13, 14]);
+        both.came(30, &[0, 7, 8, 9, 10, 11, 12, 13, 14]);
+        println!("asks {:?}, commits {:?}", both.asks, both.commits);
+        came(&both.asks, 50, &[0, 7, 8, 9, 10, 11, 12, 13, 14]);
+        came(&both.commits, 50, &[0, 7, 8, 9, 10, 11, 12, 14, 18]);
+        assert_eq!((both.asks[18], both.commits[13]), (0, 0));
         both_ways(2_000, &[&both.strip, &both.outline, &both.work]);
     });
 }
@@ -404,7 +521,7 @@ fn strips_of_every_kind() {
                 }
                 let damaged = damaged_strip(&mut random, damage);
                 let mut strip = perhaps_odd(&mut random, bytes(&damaged));
-                calls_on(&mut both, &mut random, &mut strip, 1);
+                calls_on(&mut both, &mut random, &mut strip, 2);
             }
             for _ in 0..20 {
                 let mut sound = sound_strip(&mut random);
@@ -416,10 +533,13 @@ fn strips_of_every_kind() {
                     let place = random.index(strip.len());
                     strip[place] = random.word(0, 255) as u8;
                 }
-                calls_on(&mut both, &mut random, &mut strip, 2);
+                calls_on(&mut both, &mut random, &mut strip, 4);
             }
         }
-        both.came(100, &[0, 5, 9, 12, 13]);
+        both.came(50, &[0, 5, 9, 12, 13]);
+        println!("asks {:?}, commits {:?}", both.asks, both.commits);
+        came(&both.asks, 100, &[0, 5, 9, 12, 13]);
+        came(&both.commits, 100, &[0, 5, 9, 12, 18]);
     });
 }
 
@@ -444,8 +564,8 @@ fn placing_on_the_longest_strips() {
             let runs = vec![vec![]; usize::from(n)];
             let strip = bytes(&strip_with(&mut random, figures, &runs));
             for more in [0, 1, 2, 3, 8, 9, 60_000] {
-                let mut strip = [&strip[..], &vec![0; more]].concat();
-                let answer = both.place(&mut strip, &square, 1, 12);
+                let strip = [&strip[..], &vec![0; more]].concat();
+                let answer = both.in_each_way(&strip, &square, 0, 12);
                 assert_eq!(answer.is_ok(), sound && more <= 1, "N {n} Q {q} and {more}");
             }
         }
@@ -471,7 +591,11 @@ fn outlines_at_and_past_the_longest() {
                 engine::open_bytes(40, 2, figures.columns, &mut strip),
                 Ok(())
             );
-            let answer = both.place(&mut strip, &outline, 15, 600);
+            let answer = both.in_each_way(&strip, &outline, 3, 600);
+            assert_eq!(
+                both.place(&mut strip, &outline, 15, 600).is_ok(),
+                answer.is_ok()
+            );
             let words = length / 2;
             let wrong_length = words % 2 == 1 || !(6..=128).contains(&words);
             assert_eq!(answer == Err(no(7, 1)), wrong_length, "{length} bytes");
@@ -500,7 +624,7 @@ fn work_buffers_of_every_size() {
             for outline in [SQUARE.to_vec(), bar(2_999), bar(3_000), bar(3_001)] {
                 let mut strip = vec![7; strip_bytes(4_096, 4_000)];
                 assert_eq!(engine::open_bytes(5, 1, 4_096, &mut strip), Ok(()));
-                let answer = both.place(&mut strip, &bytes(&outline), 1, length);
+                let answer = both.in_each_way(&strip, &bytes(&outline), 0, length);
                 let runs = usize::from(outline[2]);
                 assert_eq!(
                     answer.is_ok(),
@@ -543,11 +667,32 @@ fn pieces_with_most_runs() {
         ] {
             let mut strip = vec![7; strip_bytes(4_096, 16_000)];
             assert_eq!(engine::open_bytes(16_000, 1, 4_096, &mut strip), Ok(()));
-            let answer = both.place(&mut strip, &bytes(outline), 1, length);
+            let answer = both.in_each_way(&strip, &bytes(outline), 0, length);
             let came = answer.map_or_else(|no| no.number, |_| 0);
             assert_eq!(came, number, "{length} bytes");
         }
     });
+}
+
+/// The strip of an ask cannot be written meanwhile, at even and at odd addresses.
+#[test]
+fn an_ask_only_reads_the_strip() {
+    let mut random = Random::new(520);
+    let mut room = Room::new(4_000);
+    let mut granted = 0;
+    for _ in 0..2_000 {
+        let sound = sound_strip(&mut random);
+        let strip = perhaps_odd(&mut random, bytes(&sound));
+        let outline = bytes(&sound_outline(&mut random, 15, 4));
+        let end = random.pick(&End::ALL);
+        let answer = room.lend_to_read(end, &strip, |lent| {
+            engine::ask_bytes(lent, &outline, 15, &mut [1; 600])
+        });
+        let expected = ask_bytes(&strip, &outline, 15, &mut [1; 600]);
+        assert_eq!(answer, expected);
+        granted += u32::from(answer.is_ok());
+    }
+    assert!(granted > 500, "{granted}");
 }
 
 // Lay
@@ -767,13 +912,13 @@ fn empty_buffers() {
             let held = vec![9; length];
             assert_eq!(both.open(figures(10, 2, 10), length), Err(no(4, 0)));
             assert_eq!(both.open(figures(0, 2, 10), length), Err(no(3, 0)));
-            let answer = both.place(&mut held.clone(), &held, 1, length);
+            let answer = both.in_each_way(&held, &held, 0, length);
             assert_eq!(answer, Err(no(5, 0)));
             let mut strip = vec![3; strip_bytes(10, 2) + length];
             assert_eq!(engine::open_bytes(10, 2, 10, &mut strip), Ok(()));
-            let answer = both.place(&mut strip, &held, 1, length);
+            let answer = both.in_each_way(&strip, &held, 0, length);
             assert_eq!(answer, Err(no(7, 1)));
-            let answer = both.place(&mut strip, &bytes(&SQUARE), 1, length);
+            let answer = both.in_each_way(&strip, &bytes(&SQUARE), 0, length);
             assert_eq!(answer, Err(no(12, 1)));
             assert_eq!(both.lay(&held, none).0, Err(no(1, 0)));
             assert_eq!(both.lay(&squares(0), none).0, Err(no(4, 0)));
@@ -810,6 +955,13 @@ fn any_bytes() {
             };
             let (mask, work) = (any_mask(&mut random), random.index(50));
             both.place(&mut strip, &outline, mask, work).ok();
+            both.ask(&strip, &outline, mask, work).ok();
+            let position = Position {
+                turn: any_turn(&mut random),
+                column: random.word(0, 65_535),
+                height: random.word(0, 65_535),
+            };
+            both.commit(&mut strip, &outline, position, work).ok();
             let sheet = some_bytes(&mut random, 200);
             let lengths = Lengths {
                 strip: random.index(300),
@@ -829,16 +981,21 @@ fn on_a_small_stack() {
         let mut strip = vec![0; strip_bytes(10, 6)];
         let mut work = vec![0; 18_001];
         assert_eq!(engine::open_bytes(10, 2, 10, &mut strip), Ok(()));
+        let mut committed = strip.clone();
         for (column, height) in [(0, 0), (0, 4), (2, 0)] {
             let square = bytes(&[0, 0, 4, 0, 4, 4, 0, 4]);
-            assert_eq!(
-                engine::place_bytes(&mut strip, &square, 1, &mut work),
-                Ok(Position {
-                    turn: 0,
-                    column,
-                    height
-                })
-            );
+            let position = Position {
+                turn: 0,
+                column,
+                height,
+            };
+            let answer = engine::ask_bytes(&committed, &square, 1, &mut work);
+            assert_eq!(answer, Ok(position));
+            let answer = engine::commit_bytes(&mut committed, &square, position, &mut work);
+            assert_eq!(answer, Ok(()));
+            let answer = engine::place_bytes(&mut strip, &square, 1, &mut work);
+            assert_eq!(answer, Ok(position));
+            assert!(committed == strip);
         }
         let mut output = vec![0; 24];
         assert_eq!(

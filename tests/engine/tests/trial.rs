@@ -1,7 +1,8 @@
 //! The trial pieces of document 01 that open, place and cover can run, starred or
-//! not, with the numbers that the paper gives. "Q is 6 where none is given."
+//! not, with the numbers that the paper gives. "Q is 6 where none is given." Each is
+//! laid in two steps, too, by ask and commit.
 
-use engine::{cover, open, place};
+use engine::{ask, commit, cover, open, place};
 use reference::{strip_runs, Position, Refusal};
 
 /// Square S, 4 by 4.
@@ -16,12 +17,23 @@ fn opened(w: u16, r: u16, n: u16, q: usize) -> Vec<u16> {
     strip
 }
 
-/// Turn, column and height, or the number of the refusal.
+/// Turn, column and height, or the number of the refusal. "Place stays as ask and
+/// commit together."
 fn placed(strip: &mut [u16], outline: &[u16], mask: u16) -> Result<(u16, u16, u16), u16> {
     let before = strip.to_vec();
     let mut work = [0xFFFF; 90];
     let answer = place(strip, outline, mask, &mut work);
     assert_eq!(work, [0; 90]);
+    let mut in_two_steps = before.clone();
+    work.fill(0xFFFF);
+    assert_eq!(ask(&in_two_steps, outline, mask, &mut work), answer);
+    assert_eq!((work, &in_two_steps), ([0; 90], &before));
+    if let Ok(position) = answer {
+        work.fill(0xFFFF);
+        let committed = commit(&mut in_two_steps, outline, position, &mut work);
+        assert_eq!((committed, work), (Ok(()), [0; 90]));
+        assert!(in_two_steps == strip);
+    }
     match answer {
         Ok(Position {
             turn,
@@ -127,4 +139,28 @@ fn six_by_two() {
         let mut strip = opened(w, 2, 10, 6);
         assert_eq!(placed(&mut strip, &SIX_BY_TWO, 3), Ok((turn, 0, 0)));
     }
+}
+
+/// Commits where place would not go: U over the tip of T, and where it is off the
+/// strip or on T: 18, with ordinal 0. T is 0–1, 0–2, 0–2 and U is 0–2, 0–2, 1–2.
+#[test]
+fn u_over_the_tip_of_t() {
+    let mut strip = opened(2, 1, 6, 6);
+    let mut committed = |outline: &[u16], turn, column, height| {
+        let position = Position {
+            turn,
+            column,
+            height,
+        };
+        commit(&mut strip, outline, position, &mut [0xFFFF; 9])
+            .map_err(|Refusal { number, ordinal }| (number, ordinal))
+    };
+    assert_eq!(committed(&T, 0, 3, 0), Ok(()));
+    for (column, height) in [(2, 0), (3, 0), (4, 0), (0, 1), (65_535, 0), (0, 65_535)] {
+        assert_eq!(committed(&U, 0, column, height), Err((18, 0)));
+    }
+    assert_eq!(committed(&U, 4, 1, 0), Err((9, 1)));
+    assert_eq!(committed(&U, 0, 1, 0), Ok(()));
+    let [empty, full] = [&[][..], &[(0, 2)]];
+    assert_eq!(strip_runs(&strip), [empty, full, full, full, full, full]);
 }

@@ -7,12 +7,14 @@
 //! Inputs are kept small, since the definitions try every cell and position.
 
 use reference::generate::{
-    any_mask, any_turn, damaged_list, damaged_sheet, damaged_strip, job, outline, small_figures,
-    sound_list, sound_pieces, sound_sheet, sound_strip, stroke_outline, Damage, Job, ListDamage,
-    OutlineKind, Random, SheetDamage, StrokeKind,
+    any_mask, any_turn, change_words, commit_position, damaged_list, damaged_sheet, damaged_strip,
+    job, outline, random_runs, small_figures, sound_list, sound_outline, sound_pieces, sound_sheet,
+    sound_strip, strip_with, stroke_outline, CommitKind, Damage, Job, ListDamage, OutlineKind,
+    Random, SheetDamage, StripFigures, StrokeKind,
 };
 use reference::sheet::list_words;
-use reference::{cover, lay, lay_text, open, place, read, retrace, strip_runs, well_formed, write};
+use reference::{ask, commit, cover, lay, lay_text, open, place, read, retrace, write};
+use reference::{strip_runs, well_formed};
 use reference::{Figures, Position, Refusal};
 use std::cmp::Ordering;
 
@@ -27,14 +29,17 @@ use Rattle.defs.specs.declared.Position.{Position}
 use Rattle.defs.specs.declared.Opening.the-variants.{Opened, Refused as NotOpened}
 use Rattle.defs.specs.declared.Covering.the-variants.{Runs, Refused as NotCovered}
 use Rattle.defs.specs.declared.Placing.the-variants.{Placed, Refused as NotPlaced}
+use Rattle.defs.specs.declared.Asking.the-variants.{Found, Refused as NotFound}
+use Rattle.defs.specs.declared.Committing.the-variants.{Committed, Refused as NotCommitted}
 use Rattle.defs.specs.declared.Reading.the-variants.{Read, Refused as NotRead}
 use Rattle.defs.specs.declared.Writing.the-variants.{Written, Refused as NotWritten}
 use Rattle.defs.specs.declared.Laying.the-variants.{Laid, Refused as NotLaid}
 use Rattle.defs.specs.declared.Retracing.the-variants.{Nowhere, Twice, Refused as NotTraced}
+use Rattle.defs.specs.Computing.Test.{listFrom}
 use Rattle.defs.specs.Computing.Cells.{Rows}
 use Rattle.defs.specs.Computing.Words.{wellFormedb, columnsRuns}
 use Rattle.defs.specs.Computing.Search.{position}
-use Rattle.defs.specs.Computing.Calls.{refusal, openAnswer, coverAnswer, coverOutput, placeAnswer, placedStrip, listAnswers, Lent}
+use Rattle.defs.specs.Computing.Calls.{refusal, openAnswer, coverAnswer, coverOutput, placeAnswer, placedStrip, askAnswer, commitAnswer, listAnswers, Lent}
 use Rattle.defs.specs.Computing.Sheets.{readAnswer, readOutput, writeAnswer, writeOutput}
 use Rattle.defs.specs.Computing.Lay.{layAnswer, layOutput}
 use Rattle.defs.specs.Computing.Ascii.{ascii}
@@ -91,10 +96,21 @@ fn refused(case: &str, refusal: Refusal) -> String {
     format!("{case} (refusal {} {})", refusal.number, refusal.ordinal)
 }
 
+fn position(p: Position) -> String {
+    format!("(position {} {} {})", p.turn, p.column, p.height)
+}
+
 fn placed(answer: Result<Position, Refusal>) -> String {
     match answer {
-        Ok(p) => format!("Placed (position {} {} {})", p.turn, p.column, p.height),
+        Ok(p) => format!("Placed {}", position(p)),
         Err(refusal) => refused("NotPlaced", refusal),
+    }
+}
+
+fn committed(answer: Result<(), Refusal>) -> String {
+    match answer {
+        Ok(()) => String::from("Committed"),
+        Err(refusal) => refused("NotCommitted", refusal),
     }
 }
 
@@ -210,14 +226,19 @@ fn list_row(random: &mut Random, table: &mut Table) {
     );
 }
 
-/// One place call on a strip with its records in any order.
-fn place_row(random: &mut Random, table: &mut Table) {
-    let strip = loop {
+/// A strip with its records in any order.
+fn small_strip(random: &mut Random) -> Vec<u16> {
+    loop {
         let strip = sound_strip(random);
         if strip[0] <= 12 && strip.len() <= 40 {
-            break strip;
+            return strip;
         }
-    };
+    }
+}
+
+/// One place call.
+fn place_row(random: &mut Random, table: &mut Table) {
+    let strip = small_strip(random);
     let (outline, mask) = (small_outline(random), any_mask(random));
     let mut after = strip.clone();
     let mut work = vec![1u16; random.index(30)];
@@ -227,6 +248,92 @@ fn place_row(random: &mut Random, table: &mut Table) {
     table.row(&call, &answer);
     let left = format!("columnsRuns (placedStrip {strip} {outline} ({answer}))");
     table.row(&left, &columns(&after));
+}
+
+/// One ask, of a sound outline or any.
+fn ask_row(random: &mut Random, table: &mut Table) {
+    let mut strip = small_strip(random);
+    if random.once_in(8) {
+        change_words(random, &mut strip);
+    }
+    let outline = match random.index(2) {
+        0 => small_outline(random),
+        _ => sound_outline(random, 15, 4),
+    };
+    let (mask, mut work) = (any_mask(random), vec![1u16; random.index(30)]);
+    let answer = match ask(&strip, &outline, mask, &mut work) {
+        Ok(p) => format!("Found {}", position(p)),
+        Err(refusal) => refused("NotFound", refusal),
+    };
+    let (strip, outline) = (numbers(&strip), numbers(&outline));
+    let call = format!("askAnswer {strip} {outline} {mask} {}", work.len());
+    table.row(&call, &answer);
+}
+
+/// One commit of each kind, and one at the answer of an ask; what they leave is the
+/// strip of a place call with that answer.
+fn commit_rows(random: &mut Random, table: &mut Table) {
+    for kind in CommitKind::ALL.map(Some).into_iter().chain([None]) {
+        let strip = small_strip(random);
+        let outline = match random.index(4) {
+            0 => small_outline(random),
+            _ => sound_outline(random, 15, 4),
+        };
+        let mut work = vec![1u16; random.index(30)];
+        let asked = ask(&strip, &outline, 15, &mut work);
+        let at = match (kind, asked) {
+            (None, Ok(answer)) => answer,
+            (kind, _) => {
+                let kind = kind.unwrap_or(CommitKind::Anywhere);
+                commit_position(random, kind, &strip, &outline)
+            }
+        };
+        let mut after = strip.clone();
+        let answer = commit(&mut after, &outline, at, &mut work);
+        let (strip, outline, at) = (numbers(&strip), numbers(&outline), position(at));
+        let call = format!("commitAnswer {strip} {outline} {at} {}", work.len());
+        table.row(&call, &committed(answer));
+        if answer.is_ok() {
+            let left = format!("columnsRuns (placedStrip {strip} {outline} (Placed {at}))");
+            table.row(&left, &columns(&after));
+        }
+    }
+}
+
+/// Commits of an outline at every position of a small strip, and one past its end
+/// and its top: in each turn, column by column, the heights from 0 on.
+fn every_commit_rows(random: &mut Random, table: &mut Table) {
+    let figures = StripFigures {
+        w: random.word(2, 6),
+        r: random.word(1, 2),
+        n: random.word(2, 5),
+        q: random.between(1, 4) as usize,
+    };
+    let StripFigures { w, n, q, .. } = figures;
+    let most = random.index(q + 1);
+    let runs = random_runs(random, w, n, most);
+    let strip = strip_with(random, figures, &runs);
+    let outline = sound_outline(random, 15, 3);
+    for turn in 0..4 {
+        let answer = |column, height| {
+            let at = Position {
+                turn,
+                column,
+                height,
+            };
+            committed(commit(&mut strip.clone(), &outline, at, &mut [1; 30]))
+        };
+        let answers =
+            list((0..n + 2).map(|column| list((0..w + 2).map(|height| answer(column, height)))));
+        let one = format!(
+            "commitAnswer {} {} (position {turn} c y) 30",
+            numbers(&strip),
+            numbers(&outline)
+        );
+        let (columns, heights) = (n + 2, w + 2);
+        let all = format!("listFrom (λ c. listFrom (λ y. {one}) 0 {heights}) 0 {columns}");
+        table.row(&all, &answers);
+    }
 }
 
 fn strip_row(random: &mut Random, table: &mut Table) {
@@ -397,6 +504,9 @@ fn main() {
         limits_row(&mut random, &mut table, round as usize % 3);
         list_row(&mut random, &mut table);
         place_row(&mut random, &mut table);
+        ask_row(&mut random, &mut table);
+        commit_rows(&mut random, &mut table);
+        every_commit_rows(&mut random, &mut table);
         strip_row(&mut random, &mut table);
         strip_row(&mut random, &mut table);
         read_row(&mut random, &mut table);

@@ -1,7 +1,7 @@
-//! Random jobs of small pieces on small strips, and lists of place calls.
+//! Random jobs of small pieces on small strips.
 
 use super::outlines::is_sound;
-use super::{any_mask, any_outline, small_figures, sound_mask, sound_outline, Random, SheetPlan};
+use super::{small_figures, sound_mask, sound_outline, Random, SheetPlan};
 use crate::figures::{Figures, Piece};
 
 #[derive(Clone, Debug)]
@@ -81,40 +81,4 @@ pub fn sound_pieces_of(random: &mut Random, count: usize, vertices: usize) -> Ve
     }
     assert_eq!(left, 0);
     pieces
-}
-
-/// One call of a list of place calls.
-#[derive(Clone, Debug)]
-pub struct PlaceCall {
-    pub outline: Vec<u16>,
-    pub mask: u16,
-    /// The length of the work buffer in words.
-    pub work: usize,
-}
-
-/// A list of place calls: "Each call gets any outline, mask and work buffer".
-/// Most have a sound outline of up to this size and work words enough.
-pub fn place_calls(random: &mut Random, count: usize, size: u16) -> Vec<PlaceCall> {
-    (0..count)
-        .map(|_| {
-            let mask = any_mask(random);
-            let small = random.word(2, size);
-            let outline = if random.once_in(8) {
-                any_outline(random)
-            } else {
-                let some_mask = if (1..=15).contains(&mask) { mask } else { 15 };
-                sound_outline(random, some_mask, small)
-            };
-            let work = if random.once_in(8) {
-                random.index(12)
-            } else {
-                9_000
-            };
-            PlaceCall {
-                outline,
-                mask,
-                work,
-            }
-        })
-        .collect()
 }

@@ -2,6 +2,7 @@
 //!
 //! "Sound" is said of what passes its questions, "damaged" of what does not.
 
+pub mod calls;
 pub mod jobs;
 pub mod lists;
 pub mod outlines;
@@ -11,7 +12,8 @@ pub mod strips;
 pub mod strokes;
 pub mod texts;
 
-pub use jobs::{job, place_calls, sound_piece_of, sound_pieces, sound_pieces_of, Job, PlaceCall};
+pub use calls::{commit_position, place_calls, Call, CommitCall, CommitKind, MixedList, PlaceCall};
+pub use jobs::{job, sound_piece_of, sound_pieces, sound_pieces_of, Job};
 pub use lists::{damaged_list, damaged_list_at, sound_list, DamagedList, ListDamage};
 pub use outlines::{any_outline, any_size, outline, sound_outline, OutlineKind};
 pub use random::Random;

@@ -7,6 +7,8 @@
 
 #![allow(dead_code)]
 
+pub mod cells;
+
 use reference::generate::SheetPlan;
 use reference::{Figures, Piece, Position, Refusal, Totals};
 
@@ -177,20 +179,25 @@ pub fn check_open(w: u16, r: u16, n: u16, length: usize) -> Result<Vec<u16>, Ref
     }
 }
 
-/// Place with a work buffer of this length.
-pub fn check_place(
-    strip: &mut [u16],
-    outline: &[u16],
-    mask: u16,
-    length: usize,
-) -> Result<Position, Refusal> {
-    let before = strip.to_vec();
+/// Runs a call with a work buffer of this length.
+fn with_work<T>(length: usize, call: impl FnOnce(&mut [u16]) -> T) -> T {
     let mut work = other_words(length);
-    let answer = reference::place(strip, outline, mask, &mut work);
+    let answer = call(&mut work);
     assert!(
         work.iter().all(|&word| word == 0),
         "the work buffer is zero"
     );
+    answer
+}
+
+/// Runs a call that lays a piece, with a work buffer of this length.
+fn check_laying<T>(
+    strip: &mut [u16],
+    length: usize,
+    call: impl FnOnce(&mut [u16], &mut [u16]) -> Result<T, Refusal>,
+) -> Result<T, Refusal> {
+    let before = strip.to_vec();
+    let answer = with_work(length, |work| call(strip, work));
     if answer.is_ok() {
         assert!(reference::well_formed(strip));
         assert_eq!(strip[..3], before[..3]);
@@ -198,6 +205,51 @@ pub fn check_place(
         assert_eq!(strip, before, "the strip is kept at a refusal");
     }
     answer
+}
+
+/// Place with a work buffer of this length. "Place stays as ask and commit
+/// together": an ask with the same arguments has its answer, and a commit there
+/// leaves its runs.
+pub fn check_place(
+    strip: &mut [u16],
+    outline: &[u16],
+    mask: u16,
+    length: usize,
+) -> Result<Position, Refusal> {
+    let asked = check_ask(strip, outline, mask, length);
+    let mut committed = strip.to_vec();
+    let answer = check_laying(strip, length, |strip, work| {
+        reference::place(strip, outline, mask, work)
+    });
+    assert_eq!(asked, answer, "ask answers what place does");
+    if let Ok(position) = answer {
+        let commit = check_commit(&mut committed, outline, position, length);
+        assert_eq!(commit, Ok(()));
+        assert!(reference::same_strip(&committed, strip));
+    }
+    answer
+}
+
+/// Ask with a work buffer of this length. The strip is lent to be read only.
+pub fn check_ask(
+    strip: &[u16],
+    outline: &[u16],
+    mask: u16,
+    length: usize,
+) -> Result<Position, Refusal> {
+    with_work(length, |work| reference::ask(strip, outline, mask, work))
+}
+
+/// Commit with a work buffer of this length.
+pub fn check_commit(
+    strip: &mut [u16],
+    outline: &[u16],
+    position: Position,
+    length: usize,
+) -> Result<(), Refusal> {
+    check_laying(strip, length, |strip, work| {
+        reference::commit(strip, outline, position, work)
+    })
 }
 
 /// Read with an output of this length; W, R, N and the list.

@@ -6,7 +6,7 @@ use lib.ListN.{length}
 use borrow.Author.Needs.{needs}
 use borrow.Fn.Kinds.{In}
 use borrow.Fn.PlainCycle.{Measures, is, falls, and}
-use Rattle.bytecalls.proofs.Halves.{front-long}
+use Rattle.byteput.proofs.Halves.{front-long}
 use Rattle.bytecalls.proofs.Laid.{lay-step, lay-half}
 use Rattle.bytecalls.proofs.lay_bytes.Reads as lay-bytes
 use Rattle.bytecalls.proofs.lay_bytes.Kinds as lay-bytes-kinds

@@ -1,8 +1,8 @@
--- As for place_large. Assumes nothing.
+-- As for put_large. Assumes nothing.
 use mathlib.Core.Path.{sym}
 use borrow.Author.Needs.{needs}
-use Rattle.bytecalls.proofs.Caps.{capped}
-use Rattle.bytecalls.proofs.Parts.{part-fits, part-long, lesser-most, part-is}
+use Rattle.byteput.proofs.Caps.{capped}
+use Rattle.byteput.proofs.Parts.{part-fits, part-long, lesser-most, part-is}
 use Rattle.bytecalls.proofs.Laid.{lay-more}
 use Rattle.bytecalls.proofs.lay_large.Statement.{statement}
 use Rattle.bytecalls.proofs.lay_large.Tie as tie

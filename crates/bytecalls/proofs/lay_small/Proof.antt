@@ -1,8 +1,8 @@
--- As for place_small. Assumes nothing.
+-- As for put_small. Assumes nothing.
 use mathlib.Core.Path.{sym}
 use mathlib.Core.Logic.{inl}
 use borrow.Author.Needs.{needs}
-use Rattle.bytecalls.proofs.Parts.{part-fits, part-long}
+use Rattle.byteput.proofs.Parts.{part-fits, part-long}
 use Rattle.bytecalls.proofs.Laid.{lay-more}
 use Rattle.bytecalls.proofs.lay_small.Statement.{statement}
 use Rattle.bytecalls.proofs.lay_small.Tie as tie

@@ -1,7 +1,7 @@
 -- The parts that are lent have as many words as strip and output, or as many as are of use. Assumes nothing.
 use mathlib.Core.Path.{sym}
 use borrow.Author.Needs.{needs}
-use Rattle.bytecalls.proofs.Parts.{part-fits, part-long, lesser-most, part-is}
+use Rattle.byteput.proofs.Parts.{part-fits, part-long, lesser-most, part-is}
 use Rattle.bytecalls.proofs.lay_with.Statement.{statement}
 use Rattle.bytecalls.proofs.lay_with.Tie as tie
 

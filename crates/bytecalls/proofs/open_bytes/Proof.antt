@@ -1,7 +1,7 @@
 -- The part that is lent has as many words as the strip, or one too many. Assumes nothing.
 use mathlib.Core.Path.{sym}
 use borrow.Author.Needs.{needs}
-use Rattle.bytecalls.proofs.Parts.{part-fits, part-long, lesser-most, part-is}
+use Rattle.byteput.proofs.Parts.{part-fits, part-long, lesser-most, part-is}
 use Rattle.bytecalls.proofs.open_bytes.Statement.{statement}
 use Rattle.bytecalls.proofs.open_bytes.Tie as tie
 

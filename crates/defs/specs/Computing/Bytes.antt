@@ -3,10 +3,13 @@
 use mathlib.Core.Path.{_≡_}
 use mathlib.Core.List.{List, [], _∷_, _++_}
 use Prim.Native.Nat.{ℕ, _+_, _*_}
+use Rattle.defs.specs.declared.Position.{Position}
 use Rattle.defs.specs.declared.Opening.{Opening}
 use Rattle.defs.specs.declared.Placing.{Placing}
+use Rattle.defs.specs.declared.Asking.{Asking}
+use Rattle.defs.specs.declared.Committing.{Committing}
 use Rattle.defs.specs.declared.Laying.{Laying}
-use Rattle.defs.specs.Computing.Calls.{OpenStep, PlaceStep}
+use Rattle.defs.specs.Computing.Calls.{OpenStep, PlaceStep, AskStep, CommitStep}
 use Rattle.defs.specs.Computing.Sheets.{bytesOf}
 use Rattle.defs.specs.Computing.Lay.{LayStep}
 
@@ -39,12 +42,22 @@ pub record OpenBytesStep (W R N : ℕ) (strip : List ℕ) (a : Opening) (strip' 
   pub step : OpenStep W R N (wordsIn strip) a words
   pub strip-left : strip' ≡ bytesLeft strip words
 
-pub record PlaceBytesStep (strip o : List ℕ) (mask : ℕ) (work : List ℕ) (a : Placing) (strip' work' : List ℕ) : Type 0 where
+-- of a call on strip, outline and work buffer, whose step on words is Step
+pub record OnBytes (Step : List ℕ → List ℕ → List ℕ → List ℕ → List ℕ → Type 0) (strip o work strip' work' : List ℕ) : Type 0 where
   pub words : List ℕ
   pub work-words : List ℕ
-  pub step : PlaceStep (wordsIn strip) (wordsIn o) mask (wordsIn work) a words work-words
+  pub step : Step (wordsIn strip) (wordsIn o) (wordsIn work) words work-words
   pub strip-left : strip' ≡ bytesLeft strip words
   pub work-left : work' ≡ bytesLeft work work-words
+
+abbrev pub PlaceBytesStep : List ℕ → List ℕ → ℕ → List ℕ → Placing → List ℕ → List ℕ → Type 0
+PlaceBytesStep strip o mask work a strip' work' = OnBytes (λ s v w s' w'. PlaceStep s v mask w a s' w') strip o work strip' work'
+
+abbrev pub AskBytesStep : List ℕ → List ℕ → ℕ → List ℕ → Asking → List ℕ → List ℕ → Type 0
+AskBytesStep strip o mask work a strip' work' = OnBytes (λ s v w s' w'. AskStep s v mask w a s' w') strip o work strip' work'
+
+abbrev pub CommitBytesStep : List ℕ → List ℕ → Position → List ℕ → Committing → List ℕ → List ℕ → Type 0
+CommitBytesStep strip o p work a strip' work' = OnBytes (λ s v w s' w'. CommitStep s v p w a s' w') strip o work strip' work'
 
 pub record LayBytesStep (sheet strip out work : List ℕ) (a : Laying) (strip' out' work' : List ℕ) : Type 0 where
   pub words : List ℕ

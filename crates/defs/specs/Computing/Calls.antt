@@ -1,4 +1,4 @@
--- What cover, open and place answer, and what they leave in each lent buffer. Assumes nothing.
+-- What cover, open, place, ask and commit answer, and what they leave in each lent buffer. Assumes nothing.
 use mathlib.Core.Path.{_≡_}
 use mathlib.Core.Bool.{Bool, true, not, _&&_}
 use mathlib.Core.List.{List, [], _∷_, _++_}
@@ -14,17 +14,22 @@ use Rattle.defs.specs.declared.Covering.{Covering}
 use Rattle.defs.specs.declared.Covering.the-variants.{Runs, Refused as NotCovered}
 use Rattle.defs.specs.declared.Placing.{Placing}
 use Rattle.defs.specs.declared.Placing.the-variants.{Placed, Refused as NotPlaced}
+use Rattle.defs.specs.declared.Asking.{Asking}
+use Rattle.defs.specs.declared.Asking.the-variants.{Found, Refused as NotFound}
+use Rattle.defs.specs.declared.Committing.{Committing}
+use Rattle.defs.specs.declared.Committing.the-variants.{Committed, Refused as NotCommitted}
 use Rattle.defs.specs.Meaning.Limits.{mostCoordinate, mostMask, mostTurn, leadingWords, recordWords}
 use Rattle.defs.specs.Meaning.Strip.{widthOf, resolutionOf, columnsOf}
+use Rattle.defs.specs.Meaning.Placing.{endColumn, top}
 use Rattle.defs.specs.Computing.Test.{ask, all}
 use Rattle.defs.specs.Computing.Cells.{Rows, pieceRuns, countRuns, ordersb, mostRuns}
 use Rattle.defs.specs.Computing.Words.{limitsNo, resolutionb, lengthb, wellFormedb, recordsOf, runsOf, columnsRuns, written}
-use Rattle.defs.specs.Computing.Search.{bestBelow, entered}
+use Rattle.defs.specs.Computing.Search.{freeb, dropN, bestBelow, entered}
 
 abbrev pub refusal : ℕ → ℕ → Refusal
 refusal n k = record { number = n; ordinal = k }
 
--- The questions as tests. The mask of a cover call with turn t is 2 ^ t.
+-- The questions as tests. The mask of a cover or commit call with turn t is 2 ^ t.
 
 unfoldable pub q7b : List ℕ → Bool
 q7b o = eqb (length o % 2) 0 && (leb 6 (length o) && leb (length o) 128)
@@ -43,6 +48,11 @@ q12b o mask R words = leb (3 * mostRuns o mask R 4) words
 
 unfoldable pub q14b : ℕ → ℕ → ℕ → List (List Rows) → List ℕ → Position → Bool
 q14b W R Q held o p = leb (countRuns (entered W R held o p)) Q
+
+unfoldable pub q18b : ℕ → ℕ → ℕ → List (List Rows) → List ℕ → Position → Bool
+q18b W R N held o p =
+    (leb (endColumn R o p) N && leb (top o p) W) &&
+    freeb (p .height) (pieceRuns o (p .turn) R) (dropN (p .column) held)
 
 -- The first of 7 to 11 that gets "no", else 0. `ninth` is the answer to 9.
 unfoldable pub outlineNo : List ℕ → Bool → ℕ → ℕ → ℕ
@@ -95,6 +105,32 @@ placeAnswer s o mask words =
     ask (wellFormedb s) (NotPlaced (refusal 5 0)) λ _.
     placeOn (widthOf s) (resolutionOf s) (columnsOf s) (recordsOf (columnsOf s) (length s)) (columnsRuns s) o mask words
 
+-- ask: "the position that place would give, or its number"
+
+abbrev pub shown : Placing → Asking
+shown (Placed p) = Found p
+shown (NotPlaced r) = NotFound r
+
+unfoldable pub askAnswer : List ℕ → List ℕ → ℕ → ℕ → Asking
+askAnswer s o mask words = shown (placeAnswer s o mask words)
+
+-- commit: "asks what place asks with that turn alone allowed", 18 "instead of 13"
+
+-- on a strip that holds these runs, column by column
+unfoldable pub commitOn : ℕ → ℕ → ℕ → ℕ → List (List Rows) → List ℕ → Position → ℕ → Committing
+commitOn W R N Q held o p words =
+    let no = outlineNo o (leb (p .turn) mostTurn) (2 ^ p .turn) R in
+    ask (eqb no 0) (NotCommitted (refusal no 1)) λ _.
+    ask (q12b o (2 ^ p .turn) R words) (NotCommitted (refusal 12 1)) λ _.
+    ask (q18b W R N held o p) (NotCommitted (refusal 18 0)) λ _.
+    ask (q14b W R Q held o p) (NotCommitted (refusal 14 1)) λ _.
+    Committed
+
+unfoldable pub commitAnswer : List ℕ → List ℕ → Position → ℕ → Committing
+commitAnswer s o p words =
+    ask (wellFormedb s) (NotCommitted (refusal 5 0)) λ _.
+    commitOn (widthOf s) (resolutionOf s) (columnsOf s) (recordsOf (columnsOf s) (length s)) (columnsRuns s) o p words
+
 -- What is left in the buffers.
 
 -- cover's output: "three 16-bit words per run, by column then low … keeps the rest"
@@ -115,7 +151,7 @@ abbrev pub cleared : List ℕ → List ℕ
 cleared work = replicate (length work) 0
 
 -- "Which record number carries which run, and the order of the free chain, is left open; the runs per column are not."
--- What every strip has in common that a granted open or place may leave.
+-- What every strip has in common that a granted open, place or commit may leave.
 pub record Left (W R N words : ℕ) (runs : ℕ → List Rows) (s : List ℕ) : Type 0 where
   pub well-formed : wellFormedb s ≡ true
   pub long : length s ≡ words
@@ -129,12 +165,20 @@ unfoldable pub OpenLeaves : ℕ → ℕ → ℕ → List ℕ → Opening → Lis
 OpenLeaves W R N s Opened s' = Left W R N (length s) (λ k. []) s'
 OpenLeaves W R N s (NotOpened r) s' = s' ≡ s
 
--- "the piece's cells are added, touching runs joined"; "Strip and output keep their words at a refusal."
-unfoldable pub PlaceLeaves : List ℕ → List ℕ → Placing → List ℕ → Type 0
-PlaceLeaves s o (Placed p) s' =
+-- "the piece's cells are added, touching runs joined": the strip with the outline entered at p.
+abbrev pub EnteredLeaves : List ℕ → List ℕ → Position → List ℕ → Type 0
+EnteredLeaves s o p s' =
     Left (widthOf s) (resolutionOf s) (columnsOf s) (length s)
     (λ k. getD (entered (widthOf s) (resolutionOf s) (columnsRuns s) o p) k []) s'
+
+-- "Strip and output keep their words at a refusal."
+unfoldable pub PlaceLeaves : List ℕ → List ℕ → Placing → List ℕ → Type 0
+PlaceLeaves s o (Placed p) s' = EnteredLeaves s o p s'
 PlaceLeaves s o (NotPlaced r) s' = s' ≡ s
+
+unfoldable pub CommitLeaves : List ℕ → List ℕ → Position → Committing → List ℕ → Type 0
+CommitLeaves s o p Committed s' = EnteredLeaves s o p s'
+CommitLeaves s o p (NotCommitted r) s' = s' ≡ s
 
 -- One strip among them, for a table that goes on from call to call.
 unfoldable pub openedStrip : ℕ → ℕ → ℕ → ℕ → List ℕ
@@ -171,7 +215,21 @@ pub record CoverStep (o : List ℕ) (t R : ℕ) (out : List ℕ) (a : Covering) 
   pub answer : a ≡ coverAnswer o t R (length out)
   pub output : out' ≡ coverOutput o t R out a
 
+-- S-2: "Place stays as ask and commit together", which is `Place-is-ask-and-commit` of claims/specs/Asking.
 pub record PlaceStep (s o : List ℕ) (mask : ℕ) (work : List ℕ) (a : Placing) (s' work' : List ℕ) : Type 0 where
   pub answer : a ≡ placeAnswer s o mask (length work)
   pub strip : PlaceLeaves s o a s'
+  pub zeros : work' ≡ cleared work
+
+-- "Ask answers the position that place would give, or its number, and changes no strip word."
+pub record AskStep (s o : List ℕ) (mask : ℕ) (work : List ℕ) (a : Asking) (s' work' : List ℕ) : Type 0 where
+  pub answer : a ≡ askAnswer s o mask (length work)
+  pub strip : s' ≡ s
+  pub zeros : work' ≡ cleared work
+
+-- "Commit takes strip, outline, turn, column, height and a work buffer, asks what place asks with that turn alone allowed, and
+-- enters the cells if that position is on the strip and free."
+pub record CommitStep (s o : List ℕ) (p : Position) (work : List ℕ) (a : Committing) (s' work' : List ℕ) : Type 0 where
+  pub answer : a ≡ commitAnswer s o p (length work)
+  pub strip : CommitLeaves s o p a s'
   pub zeros : work' ≡ cleared work

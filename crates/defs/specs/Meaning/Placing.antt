@@ -70,3 +70,11 @@ pub record OccupiedBefore (R : ℕ) (outline : ℕ → List ℕ) (Places : ℕ �
   pub position : Position
   pub places : Places earlier position
   pub covered : cellsAt R (outline earlier) position i j
+
+-- The same over lists of calls of several kinds: Lies l o p says that the piece of call l, outline o at p, is on the strip.
+pub record OccupiedBy (R : ℕ) (Lies : ℕ → List ℕ → Position → Type 0) (i j : ℕ) : Type 0 where
+  pub call : ℕ
+  pub outline : List ℕ
+  pub position : Position
+  pub lies : Lies call outline position
+  pub covered : cellsAt R outline position i j

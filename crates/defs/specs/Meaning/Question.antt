@@ -11,7 +11,7 @@ use Rattle.defs.specs.Meaning.Outline.{KeepsOrder}
 use Rattle.defs.specs.Meaning.Turn.{turned, Allows}
 use Rattle.defs.specs.Meaning.Cell.{Cells, AtMostRuns}
 use Rattle.defs.specs.Meaning.Strip.{Length, WellFormed}
-use Rattle.defs.specs.Meaning.Placing.{Fits, cellsIn, cellsAt}
+use Rattle.defs.specs.Meaning.Placing.{OnStrip, Free, Fits, cellsIn, cellsAt}
 use Rattle.defs.specs.Meaning.Sheet.{PieceChain, VertexChain}
 
 -- "write 3, 6 to 11, then 2 (size)": the size of what is to be written
@@ -91,6 +91,11 @@ Question12 o mask R words = (t : ℕ) → Allows mask t → AtMostRuns (cellsIn 
 unfoldable pub Question13 : ℕ → ℕ → ℕ → Cells → List ℕ → ℕ → Type 0
 Question13 W R N Occupied o mask = (p : Position) × Fits W R N Occupied o mask p
 
+-- S-2: "18 when a commit's position is off the strip or not free, asked instead of 13"
+pub record Question18 (W R N : ℕ) (Occupied : Cells) (o : List ℕ) (p : Position) : Type 0 where
+  pub on-strip : OnStrip W R N o p
+  pub free : Free Occupied R o p
+
 -- "14. Are the strip's runs after placing at most Q?"
 unfoldable pub Question14 : ℕ → ℕ → Cells → List ℕ → Position → Type 0
 Question14 R Q Occupied o p = AtMostRuns (λ i j. Occupied i j ⊎ cellsAt R o p i j) Q
@@ -109,7 +114,7 @@ pub record Asked7to12 (o : List ℕ) (mask R words : ℕ) : Type 0 where
   pub q11 : Question11 o mask R
   pub q12 : Question12 o mask R words
 
--- what place asks before 13
+-- what place and ask ask before 13, and, with its turn alone allowed, a commit before 18
 pub record AskedBefore13 (s o : List ℕ) (mask R words : ℕ) : Type 0 where
   pub q5 : Question5 s
   pub q7to12 : Asked7to12 o mask R words

@@ -9,8 +9,7 @@
 use engine::plain_place::Board;
 use engine::{data, plain_sheet};
 use reference::figures::Piece;
-use reference::generate::outlines::is_sound;
-use reference::generate::{Job, Random};
+use reference::generate::Job;
 use reference::sheet::list_words;
 use reference::{Figures, Totals};
 use std::time::Instant;
@@ -164,18 +163,10 @@ fn row(name: &str, laid: &Laid) {
     );
 }
 
-/// Pieces that pass questions 7 to 11, in any order.
 fn pieces(file: &str, times: u16, count: usize, mask: u16) -> Vec<Piece> {
-    let larger = |outline: Vec<u16>| -> Vec<u16> { outline.iter().map(|x| times * x).collect() };
-    let mut outlines: Vec<Vec<u16>> = data::outlines(file)
-        .into_iter()
-        .map(larger)
-        .filter(|outline| is_sound(outline, 15))
-        .collect();
-    Random::new(51).shuffle(&mut outlines);
-    assert!(outlines.len() >= count, "{}", outlines.len());
     let with_mask = |outline| Piece { outline, mask };
-    outlines.into_iter().take(count).map(with_mask).collect()
+    let outlines = data::sound_outlines(file, times, count);
+    outlines.into_iter().map(with_mask).collect()
 }
 
 fn main() {

@@ -5,12 +5,11 @@
 //! times is that of a plain program which, like the engine, asks question 5 of the
 //! strip's words at each call and writes them anew: beside its own form, from which
 //! it is spared to make its columns. The engine's calls on buffers of bytes are
-//! measured beside its own on words.
+//! measured beside its own on words, and so are lists in two steps: an ask, and a
+//! commit at its answer.
 
 use engine::plain_place::Board;
 use engine::{data, plain_strip};
-use reference::generate::outlines::is_sound;
-use reference::generate::Random;
 use reference::{Position, Refusal};
 use std::time::Instant;
 
@@ -74,6 +73,24 @@ fn by_engine_on_bytes(
     })
 }
 
+/// The same in two steps; the microseconds of all asks and of all commits.
+fn in_two_steps(list: &List, strip: &mut [u16], work: &mut [u16]) -> (Vec<Answer>, [f64; 2]) {
+    let mut times = [0.0; 2];
+    assert!(engine::open(WIDTH, list.r, list.n, strip).is_ok());
+    let answers = list.outlines.iter().map(|outline| {
+        let start = Instant::now();
+        let answer = engine::ask(strip, outline, list.mask, work);
+        let between = start.elapsed();
+        if let Ok(position) = answer {
+            assert!(engine::commit(strip, outline, position, work).is_ok());
+        }
+        times[0] += 1e6 * between.as_secs_f64();
+        times[1] += 1e6 * (start.elapsed() - between).as_secs_f64();
+        answer
+    });
+    (answers.collect(), times)
+}
+
 fn by_plain(list: &List) -> (Laid, Board) {
     let start = Instant::now();
     let mut board = Board::open(WIDTH, list.r, list.n, list.q);
@@ -105,7 +122,7 @@ fn row(name: &str, list: &List) {
     let bytes = |words: &Vec<u16>| words.iter().flat_map(|word| word.to_le_bytes()).collect();
     let outlines: Vec<Vec<u8>> = list.outlines.iter().map(bytes).collect();
     let (mut engine, mut plain, mut on_words) = ([f64::MAX; 4], [f64::MAX; 4], [f64::MAX; 4]);
-    let mut on_bytes = f64::MAX;
+    let (mut on_bytes, mut steps) = (f64::MAX, [f64::MAX; 2]);
     let mut placed = 0;
     let start = Instant::now();
     let mut rounds = 0;
@@ -114,6 +131,11 @@ fn row(name: &str, list: &List) {
         let fourth = by_engine_on_bytes(list, &outlines, &mut strip_bytes, &mut work_bytes);
         assert!(fourth.answers == ours.answers && strip_bytes == bytes(&strip));
         on_bytes = on_bytes.min(fourth.quarters.iter().sum());
+        let (answers, times) = in_two_steps(list, &mut words, &mut work);
+        assert!(answers == ours.answers && words == strip);
+        for (step, time) in steps.iter_mut().zip(times) {
+            *step = step.min(time);
+        }
         let (theirs, board) = by_plain(list);
         assert_eq!(ours.answers, theirs.answers);
         assert!(reference::strip_runs(&strip) == board.columns());
@@ -147,28 +169,24 @@ fn row(name: &str, list: &List) {
     println!("    quarters  engine {}", times(engine));
     println!("              plain  {}", times(plain));
     println!("           on words  {}", times(on_words));
-}
-
-/// Outlines that pass questions 7 to 11 with every mask, in any order.
-fn pieces(file: &str, times: u16, count: usize) -> Vec<Vec<u16>> {
-    let larger = |outline: Vec<u16>| -> Vec<u16> { outline.iter().map(|x| times * x).collect() };
-    let mut outlines: Vec<Vec<u16>> = data::outlines(file)
-        .into_iter()
-        .map(larger)
-        .filter(|outline| is_sound(outline, 15))
-        .collect();
-    Random::new(51).shuffle(&mut outlines);
-    assert!(outlines.len() >= count, "{}", outlines.len());
-    outlines.truncate(count);
-    outlines
+    println!(
+        "    in two steps  ask {:9.0} us, {:.2} of place  commit {:9.0} us, {:.2} of place",
+        steps[0],
+        steps[0] / ours,
+        steps[1],
+        steps[1] / ours
+    );
 }
 
 fn main() {
     // Countries four times as large, to be of the counties' size.
     let lists = [
-        ("counties", pieces(data::NC_COUNTIES, 1, 50)),
-        ("counties", pieces(data::NC_COUNTIES, 1, 100)),
-        ("countries", pieces(data::NATURAL_EARTH, 4, 200)),
+        ("counties", data::sound_outlines(data::NC_COUNTIES, 1, 50)),
+        ("counties", data::sound_outlines(data::NC_COUNTIES, 1, 100)),
+        (
+            "countries",
+            data::sound_outlines(data::NATURAL_EARTH, 4, 200),
+        ),
     ];
     for (name, outlines) in lists {
         for (r, n, q) in [(100, 300, 4_000), (20, 1_500, 16_000)] {

@@ -1,23 +1,25 @@
-//! So many calls of open, place and lay over C, one after another, on good and bad
-//! input, against the reference program: each answer and each word of every buffer,
-//! which stands between two pages that cannot be read, now at one, now at the other.
-//! One call in three is made on bytes, which stand at odd addresses too.
+//! So many calls of open, place, ask, commit and lay over C, one after another, on good
+//! and bad input, against the reference program: each answer and each word of every
+//! buffer, which stands between two pages that cannot be read, now at one, now at the
+//! other. One call in three is made on bytes, which stand at odd addresses too.
 //!
 //! soak [CALLS [SEED]]
 
-use engine::guard::{End, Room};
+use engine::guard::{End, Room, Unit};
+use reference::figures::NUMBERS;
 use reference::generate::{
-    any_figures, change_words, damaged_sheet, damaged_strip, job, place_calls, small_figures,
-    sound_sheet, sound_strip, Damage, PlaceCall, Random, SheetDamage,
+    any_figures, change_words, damaged_sheet, damaged_strip, job, small_figures, sound_sheet,
+    sound_strip, Call, CommitCall, Damage, MixedList, PlaceCall, Random, SheetDamage,
 };
-use reference::{bytes, Figures, Refusal};
+use reference::{bytes, Figures, Position, Refusal, Totals};
+use std::fmt::Debug;
 
 /// What the calls of one kind answered.
 struct Kind {
     name: &'static str,
     calls: u64,
     /// How often each number came; 0 is granted.
-    numbers: [u64; 18],
+    numbers: [u64; NUMBERS],
 }
 
 impl Kind {
@@ -25,7 +27,7 @@ impl Kind {
         Kind {
             name,
             calls: 0,
-            numbers: [0; 18],
+            numbers: [0; NUMBERS],
         }
     }
 
@@ -36,23 +38,150 @@ impl Kind {
     }
 }
 
+/// The places of the kinds among those on words, and among those on bytes.
+const OPEN: usize = 0;
+const PLACE: usize = 1;
+const ASK: usize = 2;
+const COMMIT: usize = 3;
+const LAY: usize = 4;
+
+/// A call as the engine and as the reference program have it.
+type Open<T> = [fn(u16, u16, u16, &mut [T]) -> Result<(), Refusal>; 2];
+type Lay<T> = [fn(&[u8], &mut [T], &mut [T], &mut [T]) -> Result<Totals, Refusal>; 2];
+/// Of place, ask and commit. A mask or a position stands after the outline.
+type LayPiece<T, X, A> = [fn(&mut [T], &[T], X, &mut [T]) -> Result<A, Refusal>; 2];
+
+/// Place, ask or commit.
+struct Laying<X, A> {
+    kind: usize,
+    on_words: LayPiece<u16, X, A>,
+    on_bytes: LayPiece<u8, X, A>,
+}
+
+const PLACING: Laying<u16, Position> = Laying {
+    kind: PLACE,
+    on_words: [engine::place, reference::place],
+    on_bytes: [engine::place_bytes, bytes::place_bytes],
+};
+const ASKING: Laying<u16, Position> = Laying {
+    kind: ASK,
+    on_words: [
+        |strip, outline, mask, work| engine::ask(strip, outline, mask, work),
+        |strip, outline, mask, work| reference::ask(strip, outline, mask, work),
+    ],
+    on_bytes: [
+        |strip, outline, mask, work| engine::ask_bytes(strip, outline, mask, work),
+        |strip, outline, mask, work| bytes::ask_bytes(strip, outline, mask, work),
+    ],
+};
+const COMMITTING: Laying<Position, ()> = Laying {
+    kind: COMMIT,
+    on_words: [engine::commit, reference::commit],
+    on_bytes: [engine::commit_bytes, bytes::commit_bytes],
+};
+
+/// A room for each buffer of a call, of words or of bytes.
+struct Rooms<T: Unit> {
+    sheet: Room<u8>,
+    strip: Room<T>,
+    outline: Room<T>,
+    output: Room<T>,
+    work: Room<T>,
+}
+
+impl<T: Unit> Rooms<T> {
+    /// With so many units to a word.
+    fn new(units: usize) -> Rooms<T> {
+        Rooms {
+            sheet: Room::new(70_000),
+            strip: Room::new(69_000 * units),
+            outline: Room::new(300 * units),
+            output: Room::new(1_000 * units),
+            work: Room::new(10_000 * units),
+        }
+    }
+
+    // Each call leaves the caller's buffers as the reference program does.
+
+    fn open(
+        &mut self,
+        [ours, theirs]: Open<T>,
+        [end, ..]: [End; 4],
+        figures: Figures,
+        strip: &mut [T],
+    ) -> Result<(), Refusal> {
+        let Figures {
+            width: w,
+            resolution: r,
+            columns: n,
+        } = figures;
+        let lent = self.strip.lend_at(end, strip);
+        let answer = theirs(w, r, n, strip);
+        assert_eq!(ours(w, r, n, lent), answer, "{figures:?}");
+        assert!(*lent == *strip, "strip: {figures:?}");
+        assert!(self.strip.kept_at(end, strip.len()), "{figures:?}");
+        answer
+    }
+
+    fn lay_piece<X: Copy + Debug, A: PartialEq + Debug>(
+        &mut self,
+        [ours, theirs]: LayPiece<T, X, A>,
+        [end, outline_end, work_end, _]: [End; 4],
+        strip: &mut [T],
+        (outline, with): (&[T], X),
+        work: &mut [T],
+    ) -> Result<A, Refusal> {
+        let length = work.len();
+        let case = || format!("{with:?} work of {length} {outline:?}");
+        let lent_strip = self.strip.lend_at(end, strip);
+        let lent_outline = self.outline.lend_at(outline_end, outline);
+        let lent_work = self.work.lend_at(work_end, work);
+        let ours = ours(lent_strip, lent_outline, with, lent_work);
+        let answer = theirs(strip, outline, with, work);
+        assert_eq!(ours, answer, "{}", case());
+        assert!(*lent_strip == *strip, "strip: {}", case());
+        assert!(*lent_outline == *outline, "outline: {}", case());
+        assert!(*lent_work == *work, "work: {}", case());
+        let kept = self.strip.kept_at(end, strip.len())
+            && self.outline.kept_at(outline_end, outline.len())
+            && self.work.kept_at(work_end, length);
+        assert!(kept, "beside a buffer: {}", case());
+        answer
+    }
+
+    fn lay(
+        &mut self,
+        [ours, theirs]: Lay<T>,
+        [end, sheet_end, work_end, output_end]: [End; 4],
+        sheet: &[u8],
+        [strip, output, work]: [&mut [T]; 3],
+    ) -> Result<Totals, Refusal> {
+        let lent_sheet = self.sheet.lend_at(sheet_end, sheet);
+        let lent_strip = self.strip.lend_at(end, strip);
+        let lent_output = self.output.lend_at(output_end, output);
+        let lent_work = self.work.lend_at(work_end, work);
+        let ours = ours(lent_sheet, lent_strip, lent_output, lent_work);
+        let answer = theirs(sheet, strip, output, work);
+        assert_eq!(ours, answer, "{sheet:?}");
+        assert!(*lent_sheet == *sheet, "sheet: {sheet:?}");
+        assert!(*lent_strip == *strip, "strip: {sheet:?}");
+        assert!(*lent_output == *output, "output: {sheet:?}");
+        assert!(*lent_work == *work, "work: {sheet:?}");
+        let kept = self.sheet.kept_at(sheet_end, sheet.len())
+            && self.strip.kept_at(end, strip.len())
+            && self.output.kept_at(output_end, output.len())
+            && self.work.kept_at(work_end, work.len());
+        assert!(kept, "beside a buffer: {sheet:?}");
+        answer
+    }
+}
+
 struct Soak {
     random: Random,
-    sheet: Room<u8>,
-    outline: Room,
-    strip: Room,
-    output: Room,
-    work: Room,
-    outline_bytes: Room<u8>,
-    strip_bytes: Room<u8>,
-    output_bytes: Room<u8>,
-    work_bytes: Room<u8>,
-    open: Kind,
-    place: Kind,
-    lay: Kind,
-    open_bytes: Kind,
-    place_bytes: Kind,
-    lay_bytes: Kind,
+    words: Rooms<u16>,
+    bytes: Rooms<u8>,
+    /// On words, and on bytes.
+    kinds: [[Kind; 5]; 2],
     /// Pieces of laid jobs, by fate; 0 is placed.
     fates: [u64; 16],
 }
@@ -78,12 +207,6 @@ fn put_words(words: &mut [u16], bytes: &[u8]) {
     }
 }
 
-/// All bytes are zero but an odd last one.
-fn is_cleared(now: &[u8], before: &[u8]) -> bool {
-    let words = before.len() / 2 * 2;
-    now[..words].iter().all(|&byte| byte == 0) && now[words..] == before[words..]
-}
-
 /// The pieces of a sheet, some where it is refused.
 fn pieces_of(sheet: &[u8]) -> usize {
     let mut list = vec![0; 26_001];
@@ -92,189 +215,155 @@ fn pieces_of(sheet: &[u8]) -> usize {
 
 impl Soak {
     fn new(seed: u64) -> Soak {
+        let names = ["open", "place", "ask", "commit", "lay"];
+        let on_bytes = [
+            "open as bytes",
+            "place as bytes",
+            "ask as bytes",
+            "commit as bytes",
+            "lay as bytes",
+        ];
         Soak {
             random: Random::new(seed),
-            sheet: Room::new(70_000),
-            outline: Room::new(300),
-            strip: Room::new(69_000),
-            output: Room::new(1_000),
-            work: Room::new(10_000),
-            outline_bytes: Room::new(601),
-            strip_bytes: Room::new(138_001),
-            output_bytes: Room::new(2_001),
-            work_bytes: Room::new(20_001),
-            open: Kind::new("open"),
-            place: Kind::new("place"),
-            lay: Kind::new("lay"),
-            open_bytes: Kind::new("open as bytes"),
-            place_bytes: Kind::new("place as bytes"),
-            lay_bytes: Kind::new("lay as bytes"),
+            words: Rooms::new(1),
+            bytes: Rooms::new(2),
+            kinds: [names, on_bytes].map(|names| names.map(Kind::new)),
             fates: [0; 16],
         }
     }
 
-    fn end(&mut self) -> End {
-        self.random.pick(&[End::Before, End::After])
-    }
-
-    /// For bytes: at a page or one byte from it.
-    fn any_end(&mut self) -> End {
-        self.random.pick(&End::ALL)
+    /// Whether a call is on bytes, and where its buffers stand: those of words at one
+    /// page, those of bytes each at a page or one byte from it.
+    fn form(&mut self) -> (bool, [End; 4]) {
+        if self.random.once_in(3) {
+            return (true, [(); 4].map(|()| self.random.pick(&End::ALL)));
+        }
+        (false, [self.random.pick(&[End::Before, End::After]); 4])
     }
 
     /// Opens a strip of these words, which stay where it is refused.
     fn open(&mut self, figures: Figures, strip: &mut [u16]) -> bool {
-        if self.random.once_in(3) {
-            return self.open_as_bytes(figures, strip);
-        }
-        let Figures {
-            width: w,
-            resolution: r,
-            columns: n,
-        } = figures;
-        let end = self.end();
-        let lent = self.strip.lend_at(end, strip);
-        let answer = reference::open(w, r, n, strip);
-        assert_eq!(engine::open(w, r, n, lent), answer, "{figures:?}");
-        assert!(*lent == *strip, "strip: {figures:?}");
-        assert!(self.strip.kept_at(end, strip.len()), "{figures:?}");
-        self.open.count(&answer);
+        let (on_bytes, ends) = self.form();
+        let answer = if on_bytes {
+            let calls = [engine::open_bytes, bytes::open_bytes];
+            let mut lent = as_bytes(&mut self.random, strip);
+            let answer = self.bytes.open(calls, ends, figures, &mut lent);
+            put_words(strip, &lent);
+            answer
+        } else {
+            let calls = [engine::open, reference::open];
+            self.words.open(calls, ends, figures, strip)
+        };
+        self.kinds[usize::from(on_bytes)][OPEN].count(&answer);
         answer.is_ok()
     }
 
-    fn open_as_bytes(&mut self, figures: Figures, words: &mut [u16]) -> bool {
-        let Figures {
-            width: w,
-            resolution: r,
-            columns: n,
-        } = figures;
-        let mut strip = as_bytes(&mut self.random, words);
-        let end = self.any_end();
-        let lent = self.strip_bytes.lend_at(end, &strip);
-        let answer = bytes::open_bytes(w, r, n, &mut strip);
-        assert_eq!(engine::open_bytes(w, r, n, lent), answer, "{figures:?}");
-        assert!(*lent == *strip, "strip: {figures:?}");
-        assert!(self.strip_bytes.kept_at(end, strip.len()), "{figures:?}");
-        put_words(words, &strip);
-        self.open_bytes.count(&answer);
-        answer.is_ok()
-    }
-
-    /// One call on this strip, which is left as the reference program leaves it.
-    fn place(&mut self, strip: &mut [u16], call: &PlaceCall) {
-        let mut work = any_words(&mut self.random, call.work);
-        if self.random.once_in(3) {
-            return self.place_as_bytes(strip, call, &work);
-        }
-        let end = self.end();
-        let lent_strip = self.strip.lend_at(end, strip);
-        let lent_outline = self.outline.lend_at(end, &call.outline);
-        let lent_work = self.work.lend_at(end, &work);
-        let ours = engine::place(lent_strip, lent_outline, call.mask, lent_work);
-        let answer = reference::place(strip, &call.outline, call.mask, &mut work);
-        assert_eq!(ours, answer, "{call:?}");
-        assert!(*lent_strip == *strip, "strip: {call:?}");
-        assert!(*lent_outline == *call.outline, "outline: {call:?}");
-        assert!(lent_work.iter().all(|&word| word == 0), "work: {call:?}");
-        let kept = self.strip.kept_at(end, strip.len())
-            && self.outline.kept_at(end, call.outline.len())
-            && self.work.kept_at(end, work.len());
-        assert!(kept, "beside a buffer: {call:?}");
-        self.place.count(&answer);
-    }
-
-    fn place_as_bytes(&mut self, words: &mut [u16], call: &PlaceCall, work: &[u16]) {
-        let mut strip = as_bytes(&mut self.random, words);
-        let outline = as_bytes(&mut self.random, &call.outline);
-        let mut work = as_bytes(&mut self.random, work);
-        let [end, outline_end, work_end] = [(); 3].map(|()| self.any_end());
-        let lent_strip = self.strip_bytes.lend_at(end, &strip);
-        let lent_outline = self.outline_bytes.lend_at(outline_end, &outline);
-        let lent_work = self.work_bytes.lend_at(work_end, &work);
-        let ours = engine::place_bytes(lent_strip, lent_outline, call.mask, lent_work);
-        assert!(is_cleared(lent_work, &work), "work: {call:?}");
-        let answer = bytes::place_bytes(&mut strip, &outline, call.mask, &mut work);
-        assert_eq!(ours, answer, "{call:?}");
-        assert!(*lent_strip == *strip, "strip: {call:?}");
-        assert!(*lent_outline == *outline, "outline: {call:?}");
-        assert!(*lent_work == *work, "work: {call:?}");
-        let kept = self.strip_bytes.kept_at(end, strip.len())
-            && self.outline_bytes.kept_at(outline_end, outline.len())
-            && self.work_bytes.kept_at(work_end, work.len());
-        assert!(kept, "beside a buffer: {call:?}");
-        put_words(words, &strip);
-        self.place_bytes.count(&answer);
+    /// One call on this strip, which is left as the reference program leaves it, with a
+    /// work buffer of so many words.
+    fn lay_piece<X: Copy + Debug, A: PartialEq + Debug>(
+        &mut self,
+        call: Laying<X, A>,
+        strip: &mut [u16],
+        outline: &[u16],
+        with: X,
+        work: usize,
+    ) -> Result<A, Refusal> {
+        let mut work = any_words(&mut self.random, work);
+        let (on_bytes, ends) = self.form();
+        let answer = if on_bytes {
+            let [mut lent_strip, outline, mut lent_work] =
+                [&*strip, outline, &*work].map(|words| as_bytes(&mut self.random, words));
+            let piece = (&*outline, with);
+            let (strip_bytes, work_bytes) = (&mut lent_strip, &mut lent_work);
+            let calls = call.on_bytes;
+            let answer = self
+                .bytes
+                .lay_piece(calls, ends, strip_bytes, piece, work_bytes);
+            put_words(strip, &lent_strip);
+            put_words(&mut work, &lent_work);
+            answer
+        } else {
+            let piece = (outline, with);
+            self.words
+                .lay_piece(call.on_words, ends, strip, piece, &mut work)
+        };
+        assert!(work.iter().all(|&word| word == 0), "work: {outline:?}");
+        self.kinds[usize::from(on_bytes)][call.kind].count(&answer);
+        answer
     }
 
     /// One call with a strip and an output of so many words.
     fn lay(&mut self, sheet: &[u8], strip: usize, output: usize) {
-        let mut strip = any_words(&mut self.random, strip);
-        let mut output = any_words(&mut self.random, output);
         let work = self.random.pick(&[0, 5, 60, 9_000]);
-        let mut work = any_words(&mut self.random, work);
-        if self.random.once_in(3) {
-            return self.lay_as_bytes(sheet, [&strip, &output, &work]);
-        }
-        let end = self.end();
-        let lent_sheet = self.sheet.lend_at(end, sheet);
-        let lent_strip = self.strip.lend_at(end, &strip);
-        let lent_output = self.output.lend_at(end, &output);
-        let lent_work = self.work.lend_at(end, &work);
-        let ours = engine::lay(lent_sheet, lent_strip, lent_output, lent_work);
-        let answer = reference::lay(sheet, &mut strip, &mut output, &mut work);
-        assert_eq!(ours, answer, "{sheet:?}");
-        assert!(*lent_sheet == *sheet, "sheet: {sheet:?}");
-        assert!(*lent_strip == *strip, "strip: {sheet:?}");
-        assert!(*lent_output == *output, "output: {sheet:?}");
-        assert!(lent_work.iter().all(|&word| word == 0), "work: {sheet:?}");
-        let kept = self.sheet.kept_at(end, sheet.len())
-            && self.strip.kept_at(end, strip.len())
-            && self.output.kept_at(end, output.len())
-            && self.work.kept_at(end, work.len());
-        assert!(kept, "beside a buffer: {sheet:?}");
-        self.lay.count(&answer);
+        let mut words = [strip, output, work].map(|count| any_words(&mut self.random, count));
+        let (on_bytes, ends) = self.form();
+        let answer = if on_bytes {
+            let calls = [engine::lay_bytes, bytes::lay_bytes];
+            let mut lent = words
+                .each_ref()
+                .map(|words| as_bytes(&mut self.random, words));
+            let buffers = lent.each_mut().map(Vec::as_mut_slice);
+            let answer = self.bytes.lay(calls, ends, sheet, buffers);
+            for (words, bytes) in words.iter_mut().zip(&lent) {
+                put_words(words, bytes);
+            }
+            answer
+        } else {
+            let calls = [engine::lay, reference::lay];
+            let buffers = words.each_mut().map(Vec::as_mut_slice);
+            self.words.lay(calls, ends, sheet, buffers)
+        };
+        let [_, output, work] = words;
+        assert!(work.iter().all(|&word| word == 0), "work: {sheet:?}");
+        self.kinds[usize::from(on_bytes)][LAY].count(&answer);
         if answer.is_ok() {
-            self.count_fates(sheet, &output);
+            for entry in output.chunks_exact(4).take(pieces_of(sheet)) {
+                self.fates[usize::from(entry[0])] += 1;
+            }
         }
     }
 
-    fn lay_as_bytes(&mut self, sheet: &[u8], words: [&[u16]; 3]) {
-        let [mut strip, mut output, mut work] =
-            words.map(|words| as_bytes(&mut self.random, words));
-        let [sheet_end, end, output_end, work_end] = [(); 4].map(|()| self.any_end());
-        let lent_sheet = self.sheet.lend_at(sheet_end, sheet);
-        let lent_strip = self.strip_bytes.lend_at(end, &strip);
-        let lent_output = self.output_bytes.lend_at(output_end, &output);
-        let lent_work = self.work_bytes.lend_at(work_end, &work);
-        let ours = engine::lay_bytes(lent_sheet, lent_strip, lent_output, lent_work);
-        assert!(is_cleared(lent_work, &work), "work: {sheet:?}");
-        let answer = bytes::lay_bytes(sheet, &mut strip, &mut output, &mut work);
-        assert_eq!(ours, answer, "{sheet:?}");
-        assert!(*lent_sheet == *sheet, "sheet: {sheet:?}");
-        assert!(*lent_strip == *strip, "strip: {sheet:?}");
-        assert!(*lent_output == *output, "output: {sheet:?}");
-        assert!(*lent_work == *work, "work: {sheet:?}");
-        let kept = self.sheet.kept_at(sheet_end, sheet.len())
-            && self.strip_bytes.kept_at(end, strip.len())
-            && self.output_bytes.kept_at(output_end, output.len())
-            && self.work_bytes.kept_at(work_end, work.len());
-        assert!(kept, "beside a buffer: {sheet:?}");
-        self.lay_bytes.count(&answer);
-        if answer.is_ok() {
-            let mut entries = vec![0; output.len() / 2];
-            put_words(&mut entries, &output);
-            self.count_fates(sheet, &entries);
+    /// So many calls of place, ask and commit on a strip; now and then words of it are
+    /// changed on the way, and it goes on.
+    fn calls_on(&mut self, strip: &mut [u16], count: usize, size: u16) {
+        let mut list = MixedList::new(&mut self.random, size);
+        for _ in 0..count {
+            if self.random.once_in(40) && !strip.is_empty() {
+                change_words(&mut self.random, strip);
+            }
+            match list.next_call(&mut self.random, strip) {
+                Call::Place(call) => {
+                    let PlaceCall {
+                        outline,
+                        mask,
+                        work,
+                    } = call;
+                    let _ = self.lay_piece(PLACING, strip, &outline, mask, work);
+                }
+                Call::Ask(call) => {
+                    let PlaceCall {
+                        outline,
+                        mask,
+                        work,
+                    } = &call;
+                    let answer = self.lay_piece(ASKING, strip, outline, *mask, *work);
+                    if let Ok(position) = answer {
+                        list.found(&call, position);
+                    }
+                }
+                Call::Commit(call) => {
+                    let CommitCall {
+                        outline,
+                        position,
+                        work,
+                    } = call;
+                    let _ = self.lay_piece(COMMITTING, strip, &outline, position, work);
+                }
+            }
         }
     }
 
-    fn count_fates(&mut self, sheet: &[u8], output: &[u16]) {
-        for entry in output.chunks_exact(4).take(pieces_of(sheet)) {
-            self.fates[usize::from(entry[0])] += 1;
-        }
-    }
-
-    /// A list of place calls from a granted open; now and then words of the strip
-    /// are changed on the way, and it goes on.
+    /// A list from a granted open.
     fn list(&mut self) {
         let figures = small_figures(&mut self.random);
         let q = self.random.between(1, 30) as usize;
@@ -282,12 +371,7 @@ impl Soak {
         let mut strip = any_words(&mut self.random, words);
         assert!(self.open(figures, &mut strip));
         let count = self.random.between(1, 20) as usize;
-        for call in place_calls(&mut self.random, count, 9) {
-            if self.random.once_in(40) {
-                change_words(&mut self.random, &mut strip);
-            }
-            self.place(&mut strip, &call);
-        }
+        self.calls_on(&mut strip, count, 9);
     }
 
     /// Figures of any kind, on a strip of the right length or another.
@@ -309,9 +393,7 @@ impl Soak {
             0 if damage != Damage::TooManyRecords => damaged_strip(&mut self.random, damage),
             _ => sound_strip(&mut self.random),
         };
-        for call in place_calls(&mut self.random, 2, 7) {
-            self.place(&mut strip, &call);
-        }
+        self.calls_on(&mut strip, 4, 7);
     }
 
     /// A job on a strip and an output of the right length or another.
@@ -338,16 +420,8 @@ impl Soak {
         self.lay(&sheet, strip, output);
     }
 
-    /// Calls on words, and the same calls on bytes.
-    fn kinds(&self) -> [[&Kind; 3]; 2] {
-        [
-            [&self.open, &self.place, &self.lay],
-            [&self.open_bytes, &self.place_bytes, &self.lay_bytes],
-        ]
-    }
-
     fn calls(&self) -> u64 {
-        self.kinds().iter().flatten().map(|kind| kind.calls).sum()
+        self.kinds.iter().flatten().map(|kind| kind.calls).sum()
     }
 }
 
@@ -369,35 +443,48 @@ fn main() {
         }
     }
     println!("{} calls, seed {seed}, no difference", soak.calls());
-    for kind in soak.kinds().into_iter().flatten() {
-        let came: Vec<String> = (0..18)
+    for kind in soak.kinds.iter().flatten() {
+        let came: Vec<String> = (0..NUMBERS)
             .filter(|&number| kind.numbers[number] > 0)
             .map(|number| format!("{number}: {}", kind.numbers[number]))
             .collect();
-        println!("{:14} {:8}  {}", kind.name, kind.calls, came.join(", "));
+        println!("{:15} {:8}  {}", kind.name, kind.calls, came.join(", "));
     }
     println!(
         "fates placed {}, 12: {}, 13: {}, 14: {}",
         soak.fates[0], soak.fates[12], soak.fates[13], soak.fates[14]
     );
-    for ([open, place, lay], share) in soak.kinds().into_iter().zip([1, 3]) {
+    for (kinds, share) in soak.kinds.iter().zip([1, 3]) {
         // A soak that never meets a kind of call proves nothing about it.
         let least = calls / (100 * share);
+        let [open, place, ask, commit, lay] = kinds;
         let all = [
             open.calls,
             place.numbers[0],
             place.numbers[5],
+            ask.numbers[0],
+            ask.numbers[5],
+            commit.numbers[0],
+            commit.numbers[5],
+            commit.numbers[18],
             lay.numbers[0],
             lay.calls - lay.numbers[0],
         ];
         assert!(all.iter().all(|&times| times > least), "too few of a kind");
-        // Nor one that never meets W, R or N out of limits.
+        // Nor one that never meets W, R or N out of limits, or a strip with no room.
         let rarest = calls / (1_000 * share);
-        for kind in [open, lay] {
-            for number in [3, 16, 17] {
+        let limits = &[3, 16, 17][..];
+        for (kind, numbers) in [
+            (open, limits),
+            (lay, limits),
+            (place, &[13, 14]),
+            (ask, &[13, 14]),
+        ] {
+            for &number in numbers {
                 let times = kind.numbers[number];
                 assert!(times >= rarest, "{} has {number} {times} times", kind.name);
             }
         }
+        assert_eq!((ask.numbers[18], commit.numbers[13]), (0, 0));
     }
 }

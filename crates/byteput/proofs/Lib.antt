@@ -1,0 +1,7 @@
+pub mod Asks
+pub mod Caps
+pub mod Parts
+pub mod Strips
+pub mod Work
+pub mod Halves
+pub mod Calls
