@@ -4,23 +4,24 @@
  * A strip is opened once and then takes one piece after another. Each piece goes to the free position that ends in the least
  * column, then lowest, then in the least turn; a program may also see that position before the piece is laid, and lay the piece
  * there or at another free position. A job sheet carries the figures of a strip and a cut list of pieces as bytes; a list is read
- * from it and written to it, and a whole job is laid from it in one call. Every call answers one number of 64 bits and says in it
- * what became of the call: granted, or refused with the number of the question that got "no".
+ * from it and written to it, and a whole job is laid from it in one call. An outline is also read from a path of a drawing program
+ * and written as one. Every call answers one number of 64 bits and says in it what became of the call: granted, or refused with the
+ * number of the question that got "no".
  *
  * Words and buffers
  *
- * A word is a uint16_t, and a buffer is a pointer to its first word and its number of words. A job sheet is a buffer of bytes: a
- * pointer to its first byte, which needs no alignment, and its number of bytes.
+ * A word is a uint16_t, and a buffer is a pointer to its first word and its number of words. A job sheet or a path is a buffer of
+ * bytes: a pointer to its first byte, which needs no alignment, and its number of bytes.
  * - A buffer belongs to the caller. The library reads and writes nothing outside the buffers of the call and keeps nothing
  *   between calls, so calls on different buffers may run at the same time.
  * - A pointer to words is aligned to 2 bytes. No pointer is NULL, also where the buffer has no words or bytes.
  * - The buffers of one call must not overlap; nothing checks that.
  * - A call keeps its tables on the stack, and nothing checks that there is room: 250 KB in vikelodu_lay, 220 KB in vikelodu_place,
  *   vikelodu_ask and vikelodu_commit, 40 KB in vikelodu_cover, vikelodu_read and vikelodu_write, 10 KB in vikelodu_open, 1 KB in
- *   vikelodu_retrace. The calls on bytes say their own.
+ *   vikelodu_retrace, vikelodu_read_path and vikelodu_write_path. The calls on bytes say their own.
  * - The calls whose names end in _bytes take buffers of words as bytes, two to a word, low byte first: a pointer to the first byte,
- *   which needs no alignment, and the number of bytes. An odd last byte is no part of such a buffer and stays. (Of a job sheet, which
- *   is bytes in every call, all bytes count.)
+ *   which needs no alignment, and the number of bytes. An odd last byte is no part of such a buffer and stays. (Of a job sheet
+ *   or a path, which are bytes in every call, all bytes count.)
  *
  * Lengths
  *
@@ -30,10 +31,11 @@
  * Refusals
  *
  * The questions of a call are asked in rising order, those of a piece (7 to 11) piece by piece, and the first "no" is the answer;
- * but 16 and 17 are asked directly after 3, or where 3 would be, vikelodu_commit asks 18 after 12 and before 14, and
- * vikelodu_write asks for the sheet's size (2) after its pieces. A refused call changes no word of the strip and no word or byte
- * of the output; the work buffer is zero after every call, granted or refused. What is lent as const is never changed.
- * In vikelodu_lay 12 to 14 refuse one piece and not the job: they are in the output and never in the answer.
+ * but 16 and 17 are asked directly after 3, or where 3 would be, vikelodu_commit asks 18 after 12 and before 14,
+ * vikelodu_read_path asks 15 after 19 and 20, and vikelodu_write asks for the sheet's size (2) after its pieces. A refused call
+ * changes no word of the strip and no word or byte of the output; the work buffer is zero after every call, granted or refused.
+ * What is lent as const is never changed. In vikelodu_lay 12 to 14 refuse one piece and not the job: they are in the output and
+ * never in the answer.
  */
 #ifndef VIKELODU_H
 #define VIKELODU_H
@@ -79,8 +81,8 @@ enum vikelodu_number {
     VIKELODU_NO_POSITION = 13,
     /* With the piece at its position the strip would have more runs than records. */
     VIKELODU_RECORDS = 14,
-    /* The output has not as many words as the list of vikelodu_read or the pieces of vikelodu_lay need, or bytes as the sheet of
-       vikelodu_write. */
+    /* The output has not as many words as the list of vikelodu_read, the pieces of vikelodu_lay or the outline of
+       vikelodu_read_path need, or bytes as the sheet of vikelodu_write or the path of vikelodu_write_path. */
     VIKELODU_OUTPUT = 15,
     /* The resolution is not 1 to 400 units. Answered by the calls that answer 3, which ask it directly after, and by
        vikelodu_cover. */
@@ -88,7 +90,12 @@ enum vikelodu_number {
     /* The columns are not 1 to 4,096. Answered by the calls that answer 3, which ask it directly after 16. */
     VIKELODU_COLUMNS = 17,
     /* The position is off the strip, or not free. Answered by vikelodu_commit alone, which asks it in the place of 13. */
-    VIKELODU_NOT_FREE = 18
+    VIKELODU_NOT_FREE = 18,
+    /* The path is not one move, 2 to 63 lines and one close, with nothing after it. Answered by vikelodu_read_path alone. */
+    VIKELODU_PATH_SHAPE = 19,
+    /* Eight times a coordinate of the path, in millimetres, is not a whole number from 0 to 16,000. Answered by vikelodu_read_path
+       alone, of a path that has the right shape. */
+    VIKELODU_PATH_COORDINATE = 20
 };
 
 /* The words of a strip. A record holds one run; what the pieces need depends on their form and on how their runs join. */
@@ -101,6 +108,12 @@ enum vikelodu_number {
 /* The words of a list with so many vertices and pieces in all; of the longest list, which has 200 pieces of 64 vertices. */
 #define VIKELODU_LIST_WORDS(vertices, pieces) (1 + 2 * ((size_t)(vertices) + (size_t)(pieces)))
 #define VIKELODU_MOST_LIST_WORDS 26001
+
+/* The words of the longest outline, which has 64 vertices; the bytes of the path of an outline with so many vertices; of the longest
+   path. */
+#define VIKELODU_MOST_OUTLINE_WORDS 128
+#define VIKELODU_PATH_BYTES(vertices) (9 * (size_t)(vertices) + 1)
+#define VIKELODU_MOST_PATH_BYTES 577
 
 /* The words of vikelodu_lay's output for so many pieces; for the most pieces, which are 200. */
 #define VIKELODU_ENTRY_WORDS 4
@@ -287,6 +300,53 @@ uint64_t vikelodu_lay(const uint8_t *sheet, size_t sheet_bytes, uint16_t *strip,
 uint64_t vikelodu_retrace(const uint16_t *outline, size_t outline_words);
 
 /*
+ * Reads a path of a drawing program as an outline.
+ *
+ *   path     any number of bytes, a path as below or not; they are not changed
+ *   output   at least the words of the outline; what they hold is not looked at, and words after the outline stay.
+ *            VIKELODU_MOST_OUTLINE_WORDS are always enough
+ *
+ * A path is a list of steps, and nothing after them:
+ *
+ *   one move         the byte 1, then x and y
+ *   2 to 63 lines    the byte 2, then x and y
+ *   one close        the byte 3
+ *
+ * x and y are millimetres, each a float of 32 bits (IEEE 754 binary32) in four bytes, the low byte first. A coordinate is accepted
+ * where it is a multiple of 0.125 from 0 to 2,000 mm, exactly: 12.5 is, 12.4 is not, and neither is a NaN or an infinity. Nothing is
+ * rounded. Minus zero counts as 0.
+ *
+ * Refused with 19, then 20, then 15, ordinal 0. Granted, the answer has the number of words: the outline's x, y, x, y and so on in
+ * units of 1/8 mm, as vikelodu_place takes them. The move is the first vertex. Whether the outline's edges cross (10) or it has
+ * nothing inside (11) is not asked here, but by the calls that take the outline.
+ *
+ *   uint16_t outline[VIKELODU_MOST_OUTLINE_WORDS];
+ *   uint64_t answer = vikelodu_read_path(path, path_bytes, outline, VIKELODU_MOST_OUTLINE_WORDS);
+ *   if (vikelodu_number(answer) == VIKELODU_PATH_COORDINATE)
+ *       printf("a coordinate is no multiple of 0.125 mm from 0 to 2000 mm\n");
+ *   if (vikelodu_number(answer) == VIKELODU_GRANTED)
+ *       spot = vikelodu_place(strip, strip_words, outline, vikelodu_words(answer), mask, work, work_words);
+ */
+uint64_t vikelodu_read_path(const uint8_t *path, size_t path_bytes, uint16_t *output, size_t output_words);
+
+/*
+ * Writes an outline as a path of a drawing program: a move to its first vertex, a line to each of the others, and the close. What is
+ * written reads back as that outline, and minus zero is never written.
+ *
+ *   outline   as in vikelodu_place
+ *   output    at least VIKELODU_PATH_BYTES(vertices) bytes; what they hold is not looked at, and bytes after the path stay.
+ *             VIKELODU_MOST_PATH_BYTES are always enough
+ *
+ * Refused with 7 or 8, ordinal 1, then with 15, ordinal 0. Granted, the answer has the number of bytes.
+ *
+ *   uint8_t path[VIKELODU_MOST_PATH_BYTES];
+ *   uint64_t answer = vikelodu_write_path(outline, outline_words, path, sizeof path);
+ *   if (vikelodu_number(answer) == VIKELODU_GRANTED)
+ *       fwrite(path, 1, vikelodu_size(answer), file);
+ */
+uint64_t vikelodu_write_path(const uint16_t *outline, size_t outline_words, uint8_t *output, size_t output_bytes);
+
+/*
  * vikelodu_open, vikelodu_place, vikelodu_ask, vikelodu_commit and vikelodu_lay on buffers of bytes: the same answers, and the same
  * words left in each buffer, as of the calls on words that have the buffers' words. A buffer may stand at any address, an odd one
  * too.
@@ -313,7 +373,7 @@ uint64_t vikelodu_lay_bytes(const uint8_t *sheet, size_t sheet_bytes, uint8_t *s
 static inline uint16_t vikelodu_number(uint64_t answer) { return (uint16_t)answer; }
 
 /* Of a refused call: the ordinal of the piece that is at fault or does not fit, else 0. It is the piece's place in the sheet's
-   chain or in the list, and 1 where one outline is lent; 18, where a position is at fault, has 0. */
+   chain or in the list, and 1 where one outline is lent; 18, 19 and 20, where a position or a path is at fault, have 0. */
 static inline uint16_t vikelodu_ordinal(uint64_t answer) { return (uint16_t)(answer >> 16); }
 
 /* Of a granted vikelodu_place or vikelodu_ask. */
@@ -329,8 +389,11 @@ static inline uint16_t vikelodu_width(uint64_t answer) { return (uint16_t)(answe
 static inline uint16_t vikelodu_resolution(uint64_t answer) { return (uint16_t)(answer >> 32); }
 static inline uint16_t vikelodu_columns(uint64_t answer) { return (uint16_t)(answer >> 48); }
 
-/* Of a granted vikelodu_write: the bytes of the sheet. */
+/* Of a granted vikelodu_write or vikelodu_write_path: the bytes of the sheet or the path. */
 static inline uint32_t vikelodu_size(uint64_t answer) { return (uint32_t)(answer >> 32); }
+
+/* Of a granted vikelodu_read_path: the words of the outline. */
+static inline uint32_t vikelodu_words(uint64_t answer) { return (uint32_t)(answer >> 32); }
 
 /* Of a granted vikelodu_lay: the pieces placed, and the used columns. */
 static inline uint16_t vikelodu_placed(uint64_t answer) { return (uint16_t)(answer >> 16); }

@@ -592,22 +592,30 @@ static const uint64_t two_pieces_read = (uint64_t)300 << 16 | (uint64_t)2 << 32 
 
 static uint64_t written(uint64_t size) { return size << 32; }
 
-/* Read into an output of so many words: the answer, the list, and every word after it or of a refused call as before. */
-static void read_sheet(const char *what, const uint8_t *sheet, size_t sheet_bytes, size_t words, uint64_t wanted,
-                       const uint16_t *list, size_t list_words) {
-    struct bytes lent = copy_bytes(sheet, sheet_bytes);
+/* vikelodu_read or vikelodu_read_path. */
+typedef uint64_t reading(const uint8_t *from, size_t bytes, uint16_t *output, size_t output_words);
+
+/* Read into an output of so many words: the answer, what was read, and every word after it or of a refused call as before. */
+static void read_by(reading *call, const char *what, const uint8_t *from, size_t bytes, size_t words, uint64_t wanted,
+                    const uint16_t *read, size_t read_words) {
+    struct bytes lent = copy_bytes(from, bytes);
     struct buffer output = make(words), after = copy(output);
-    expect(what, vikelodu_read(lent.at, lent.count, output.words, output.count), wanted);
-    if (list_words > 0) {
-        memcpy(after.words, list, 2 * list_words);
+    expect(what, call(lent.at, lent.count, output.words, output.count), wanted);
+    if (read_words > 0) {
+        memcpy(after.words, read, 2 * read_words);
     }
     expect_same(what, output, after);
-    expect_bytes(what, lent, sheet);
+    expect_bytes(what, lent, from);
     expect_fences("around the output", output);
-    expect_fences_of_bytes("around the sheet", lent);
+    expect_fences_of_bytes("around the bytes", lent);
     drop(output);
     drop(after);
     drop_bytes(lent);
+}
+
+static void read_sheet(const char *what, const uint8_t *sheet, size_t sheet_bytes, size_t words, uint64_t wanted,
+                       const uint16_t *list, size_t list_words) {
+    read_by(vikelodu_read, what, sheet, sheet_bytes, words, wanted, list, list_words);
 }
 
 #define READ_REFUSED(what, sheet, words, number, ordinal) \
@@ -748,6 +756,236 @@ static void test_round_trip(void) {
     expect("too long a sheet", answer, refused(VIKELODU_SHEET_LENGTH, 0));
     drop(list);
     drop_bytes(sheet);
+}
+
+/* -------------------------------------------------------------------- paths */
+
+/* 0.625, 0 and 1999.875, 2000 and 0.125, 300.5, in millimetres. */
+static const uint8_t triangle_path[] = {
+    1, 0, 0,    0x20, 0x3F, 0, 0,    0,    0,    /* move */
+    2, 0, 0xFC, 0xF9, 0x44, 0, 0,    0xFA, 0x44, /* line */
+    2, 0, 0,    0,    0x3E, 0, 0x40, 0x96, 0x43, /* line */
+    3,                                           /* close */
+};
+static const uint16_t triangle_outline[] = {5, 0, 15999, 16000, 1, 2404};
+
+enum { PLACES = 6, STEP = 9 };
+
+static const uint64_t six_words = (uint64_t)6 << 32;
+
+static const uint32_t minus_zero = 0x80000000, not_a_number = 0x7FC00000;
+
+/* The pattern as the coordinate in that place, 0 to 5 in a triangle. */
+static void put(uint8_t *path, size_t place, uint32_t pattern) {
+    uint8_t *to = path + STEP * (place / 2) + 1 + 4 * (place % 2);
+    for (int i = 0; i < 4; i++) {
+        to[i] = (uint8_t)(pattern >> 8 * i);
+    }
+}
+
+static void read_path(const char *what, const uint8_t *path, size_t path_bytes, size_t words, uint64_t wanted,
+                      const uint16_t *outline, size_t outline_words) {
+    read_by(vikelodu_read_path, what, path, path_bytes, words, wanted, outline, outline_words);
+}
+
+static void refused_path(const char *what, const uint8_t *path, size_t path_bytes, size_t words, uint64_t number) {
+    read_path(what, path, path_bytes, words, refused(number, 0), NULL, 0);
+}
+
+static void test_read_path(void) {
+    static const size_t outputs[] = {6, 7, 100, VIKELODU_MOST_OUTLINE_WORDS, 200};
+    size_t size = sizeof triangle_path;
+    uint8_t zeros[sizeof triangle_path];
+    uint16_t outline[PLACES];
+    for (size_t i = 0; i < WORDS(outputs); i++) {
+        read_path("a triangle", triangle_path, size, outputs[i], six_words, triangle_outline, 6);
+    }
+    for (size_t words = 0; words < 6; words++) {
+        refused_path("a short output", triangle_path, size, words, VIKELODU_OUTPUT);
+    }
+    for (size_t place = 0; place < PLACES; place++) {
+        memcpy(zeros, triangle_path, size);
+        memcpy(outline, triangle_outline, sizeof outline);
+        put(zeros, place, minus_zero);
+        outline[place] = 0;
+        read_path("minus zero", zeros, size, 9, six_words, outline, 6);
+        put(zeros, place, 0);
+        read_path("zero", zeros, size, 9, six_words, outline, 6);
+    }
+}
+
+/* A path of these steps: m, l, c, or any other for a step that is none, with coordinates that are accepted. */
+static void shape(const char *steps, size_t words, uint64_t number) {
+    struct bytes path = make_bytes(STEP * strlen(steps));
+    size_t end = 0;
+    for (const char *step = steps; *step != 0; step++) {
+        path.at[end++] = (uint8_t)(*step == 'm' ? 1 : *step == 'l' ? 2 : *step == 'c' ? 3 : *step);
+        if (*step != 'c') {
+            memset(path.at + end, 0, STEP - 1);
+            end += STEP - 1;
+        }
+    }
+    refused_path(steps, path.at, end, words, number);
+    drop_bytes(path);
+}
+
+static void test_path_shapes(void) {
+    static const char *const shapes[] = {
+        "",      "c",     "m",        "l",     "mc",   "mlc",   "ml",   "mll",   "lllc",  "llc",   "mmllc",
+        "mlmc",  "mlmlc", "mllmc",    "mcllc", "mcll", "mlclc", "mlcl", "cmll",  "cmllc", "mllcc", "mllcm",
+        "mllcl", "lmlc",  "mllcmllc", "xllc",  "mxlc", "mlxc",  "mllx", "mllxc", "mmm",   "mmmc",
+    };
+    static const uint8_t others[] = {0, 4, 5, 0x11, 0x41, 0x81, 0x82, 0x83, 0xFE, 0xFF}, after[] = {0, 1, 2, 3, 0xFF};
+    size_t size = sizeof triangle_path;
+    uint8_t path[sizeof triangle_path + 1];
+    char lines[1 + 65 + 1 + 1] = {'m'};
+    for (size_t i = 0; i < WORDS(shapes); i++) {
+        shape(shapes[i], 128, VIKELODU_PATH_SHAPE);
+        shape(shapes[i], 0, VIKELODU_PATH_SHAPE);
+    }
+    memset(lines + 1, 'l', 65);
+    lines[66] = 'c';
+    shape(lines, 200, VIKELODU_PATH_SHAPE);
+    memcpy(lines + 65, "c", 2);
+    shape(lines, 200, VIKELODU_PATH_SHAPE);
+    memcpy(lines + 64, "c", 2);
+    shape(lines, 127, VIKELODU_OUTPUT); /* 63 lines are a path, so that 15 is asked */
+    shape("mllc", 5, VIKELODU_OUTPUT);
+    for (size_t cut = 0; cut < size; cut++) {
+        refused_path("a path cut off", triangle_path, cut, 128, VIKELODU_PATH_SHAPE);
+    }
+    for (size_t i = 0; i < WORDS(others); i++) {
+        for (size_t step = 0; step < size; step += STEP) {
+            memcpy(path, triangle_path, size);
+            path[step] = others[i];
+            refused_path("a step that is none", path, size, 128, VIKELODU_PATH_SHAPE);
+        }
+    }
+    memcpy(path, triangle_path, size);
+    for (size_t i = 0; i < WORDS(after); i++) {
+        path[size] = after[i];
+        refused_path("a byte after the close", path, size + 1, 128, VIKELODU_PATH_SHAPE);
+    }
+}
+
+static void test_path_coordinates(void) {
+    static const uint32_t patterns[] = {
+        0x7FC00000, 0xFFC00000, 0x7F800001, 0x7FFFFFFF, 0xFFFFFFFF, /* no numbers */
+        0x7F800000, 0xFF800000,                                     /* the infinities */
+        0x00000001, 0x80000001, 0x0000003E, 0x007FFFFF, 0x00400000, /* too small to have a leading 1 */
+        0x00800000, 0x80800000, 0x7F7FFFFF, 0xFF7FFFFF,             /* the least and the greatest */
+        0xBE000000, 0xBF800000, 0xC4FA0000,                         /* -0.125, -1, -2000 */
+        0x3D800000, 0x3E400000, 0x44F9FE00, 0x44FA0200,             /* a half of 0.125 off */
+        0x3DFFFFFF, 0x3E000001, 0x3F7FFFFF, 0x3F800001,             /* neighbours of 0.125 and 1 */
+        0x44F9FFFF, 0x44FA0001,                                     /* neighbours of 2000 */
+        0x44FA0400, 0x45000000, 0x4B000000, 0x4F800000,             /* 2000.125, 2048, 2^23, 2^32 */
+        0x0000FA44, 0x00002041,                                     /* 2000 and 10 with the high byte first */
+    };
+    size_t size = sizeof triangle_path;
+    uint8_t path[sizeof triangle_path + 1] = {0};
+    for (size_t i = 0; i < WORDS(patterns); i++) {
+        for (size_t place = 0; place < PLACES; place++) {
+            memcpy(path, triangle_path, size);
+            put(path, place, patterns[i]);
+            refused_path("a coordinate not accepted", path, size, 128, VIKELODU_PATH_COORDINATE);
+            refused_path("and a short output", path, size, 5, VIKELODU_PATH_COORDINATE);
+            refused_path("and no output", path, size, 0, VIKELODU_PATH_COORDINATE);
+            refused_path("and a byte after the close", path, size + 1, 128, VIKELODU_PATH_SHAPE);
+            refused_path("and no close", path, size - 1, 128, VIKELODU_PATH_SHAPE);
+        }
+    }
+    refused_path("a byte after the close and no output", path, size + 1, 0, VIKELODU_PATH_SHAPE);
+}
+
+/* Write to an output of so many bytes: the answer, the path, and every byte after it or of a refused call as before. */
+static void write_path(const char *what, const uint16_t *outline, size_t outline_words, size_t bytes, uint64_t wanted,
+                       const uint8_t *path, size_t path_bytes) {
+    struct buffer lent = make(outline_words), before = make(outline_words);
+    struct bytes output = make_bytes(bytes), after = make_bytes(bytes);
+    memcpy(lent.words, outline, 2 * outline_words);
+    memcpy(before.words, outline, 2 * outline_words);
+    expect(what, vikelodu_write_path(lent.words, lent.count, output.at, output.count), wanted);
+    if (path_bytes > 0) {
+        memcpy(after.at, path, path_bytes);
+    }
+    expect_bytes(what, output, after.at);
+    expect_same(what, lent, before);
+    expect_fences_of_bytes("around the output", output);
+    expect_fences("around the outline", lent);
+    drop(lent);
+    drop(before);
+    drop_bytes(output);
+    drop_bytes(after);
+}
+
+static void refused_outline(const char *what, const uint16_t *outline, size_t outline_words, size_t bytes, uint64_t number,
+                            uint64_t ordinal) {
+    write_path(what, outline, outline_words, bytes, refused(number, ordinal), NULL, 0);
+}
+
+static void test_write_path(void) {
+    static const uint16_t origin[] = {0, 0, 0, 0, 0, 0};
+    static const uint8_t origin_path[] = {1, 0, 0, 0, 0, 0, 0, 0, 0, 2, 0, 0, 0, 0, 0, 0, 0, 0, 2, 0, 0, 0, 0, 0, 0, 0, 0, 3};
+    uint16_t outline[131] = {0};
+    size_t size = sizeof triangle_path;
+    expect("size", size, VIKELODU_PATH_BYTES(3));
+    write_path("a triangle", triangle_outline, 6, size, written(size), triangle_path, size);
+    write_path("a triangle", triangle_outline, 6, size + 1, written(size), triangle_path, size);
+    write_path("a triangle", triangle_outline, 6, VIKELODU_MOST_PATH_BYTES, written(size), triangle_path, size);
+    write_path("no minus zero", origin, 6, size + 9, written(size), origin_path, size);
+    for (size_t bytes = 0; bytes < size; bytes++) {
+        refused_outline("a short output", triangle_outline, 6, bytes, VIKELODU_OUTPUT, 0);
+    }
+    for (size_t words = 0; words < WORDS(outline); words++) {
+        if (words % 2 == 1 || words < 6 || words > 128) {
+            memset(outline, 0, sizeof outline);
+            refused_outline("vertices", outline, words, 600, VIKELODU_VERTICES, 1);
+            refused_outline("vertices and no output", outline, words, 0, VIKELODU_VERTICES, 1);
+            outline[0] = 16001;
+            refused_outline("vertices and 16,001", outline, words, 600, VIKELODU_VERTICES, 1);
+        }
+    }
+    for (size_t place = 0; place < PLACES; place++) {
+        memcpy(outline, triangle_outline, sizeof triangle_outline);
+        outline[place] = 16001;
+        refused_outline("16,001", outline, 6, 90, VIKELODU_COORDINATE, 1);
+        refused_outline("16,001 and a short output", outline, 6, size - 1, VIKELODU_COORDINATE, 1);
+        outline[place] = 65535;
+        refused_outline("65,535 and no output", outline, 6, 0, VIKELODU_COORDINATE, 1);
+    }
+}
+
+/* What is written reads back, of 3 to 64 vertices; what was read from a minus zero is written as zero. */
+static void test_path_round_trip(void) {
+    uint16_t outline[VIKELODU_MOST_OUTLINE_WORDS];
+    for (size_t i = 0; i < WORDS(outline); i++) {
+        outline[i] = (uint16_t)(i * 7919 % 16001);
+    }
+    for (size_t vertices = 3; vertices <= 64; vertices++) {
+        struct bytes path = make_bytes(VIKELODU_MOST_PATH_BYTES + 3);
+        size_t size = VIKELODU_PATH_BYTES(vertices), words = 2 * vertices;
+        uint64_t answer = vikelodu_write_path(outline, words, path.at, path.count);
+        expect("written", vikelodu_number(answer), VIKELODU_GRANTED);
+        expect("size", vikelodu_size(answer), size);
+        expect("move and close", path.at[0] == 1 && path.at[size - 1] == 3, 1);
+        expect("the byte after", path.at[size], 0xA7);
+        expect_fences_of_bytes("around the path", path);
+        read_path("what was written", path.at, size, words, (uint64_t)words << 32, outline, words);
+        read_path("what was written", path.at, size, words + 2, (uint64_t)words << 32, outline, words);
+        refused_path("what was written, an output short by one", path.at, size, words - 1, VIKELODU_OUTPUT);
+        refused_path("what was written and a byte", path.at, size + 1, words, VIKELODU_PATH_SHAPE);
+        put(path.at, words - 1, not_a_number);
+        refused_path("the last coordinate no number", path.at, size, words, VIKELODU_PATH_COORDINATE);
+        drop_bytes(path);
+    }
+    expect("the longest path", VIKELODU_MOST_PATH_BYTES, VIKELODU_PATH_BYTES(64));
+    uint8_t path[sizeof triangle_path];
+    memcpy(path, triangle_path, sizeof path);
+    put(path, 1, minus_zero);
+    uint64_t answer = vikelodu_read_path(path, sizeof path, outline, WORDS(outline));
+    expect("words", vikelodu_words(answer), 6);
+    write_path("a minus zero read", outline, vikelodu_words(answer), sizeof path, written(sizeof path), triangle_path,
+               sizeof path);
 }
 
 /* ---------------------------------------------------------------------- lay */
@@ -1095,6 +1333,7 @@ static void test_accessors(void) {
     expect("resolution", vikelodu_resolution(two_pieces_read), 2);
     expect("columns", vikelodu_columns(two_pieces_read), 10);
     expect("size", vikelodu_size(written(65536)), 65536);
+    expect("words", vikelodu_words((uint64_t)128 << 32), 128);
     expect("placed", vikelodu_placed(laid(200, 4096)), 200);
     expect("used", vikelodu_used(laid(200, 4096)), 4096);
     expect("first edge", vikelodu_first_edge(edges(63, 64)), 63);
@@ -1123,6 +1362,11 @@ int main(void) {
     test_write();
     test_refused_lists();
     test_round_trip();
+    test_read_path();
+    test_path_shapes();
+    test_path_coordinates();
+    test_write_path();
+    test_path_round_trip();
     test_lay();
     test_lay_on_bytes();
     test_calls_on_bytes();

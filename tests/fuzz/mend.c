@@ -1,14 +1,9 @@
 #include "mend.h"
+#include "random.h"
 
 #include <string.h>
 
-uint64_t next_random(uint64_t *state) {
-    *state += 0x9E3779B97F4A7C15;
-    uint64_t z = *state;
-    z = (z ^ (z >> 30)) * 0xBF58476D1CE4E5B9;
-    z = (z ^ (z >> 27)) * 0x94D049BB133111EB;
-    return z ^ (z >> 31);
-}
+const size_t record_bytes = 6;
 
 static unsigned get(const uint8_t *sheet, size_t place) { return sheet[place] + 256u * sheet[place + 1]; }
 

@@ -1,6 +1,8 @@
-/* libFuzzer's changes, most of them mended so that the input stays a sheet. At the end it prints how often each number came. */
+/* libFuzzer's changes, most of them mended so that the input stays a sheet or a path. At the end it prints how often each number
+   came. */
 #include "mend.h"
-#include "read.h"
+#include "random.h"
+#include "target.h"
 
 #include <stdio.h>
 #include <stdlib.h>

@@ -1,9 +1,11 @@
 /*
- * The committed seeds, and a fixed number of changed ones from a fixed seed, without libFuzzer: a cc is all it needs.
+ * The committed seeds, and a fixed number of changed ones from a fixed seed, without libFuzzer: a cc is all it needs. The name of a
+ * seed that is refused begins with the number it gets.
  * usage: replay CHANGED FILE..
  */
 #include "mend.h"
-#include "read.h"
+#include "random.h"
+#include "target.h"
 
 #include <stdio.h>
 #include <stdlib.h>
@@ -17,6 +19,7 @@ struct seed {
 };
 
 static struct seed seeds[MOST_SEEDS];
+static unsigned long long named[NUMBERS];
 
 static void load(struct seed *into, const char *name) {
     FILE *file = fopen(name, "rb");
@@ -30,7 +33,7 @@ static void load(struct seed *into, const char *name) {
 
 /* Adds or takes away records at the end, or some bytes. */
 static void change_length(struct seed *of, uint64_t *random) {
-    size_t by = next_random(random) % 4 == 0 ? next_random(random) % 7 : 6 * (next_random(random) % 4);
+    size_t by = next_random(random) % 4 == 0 ? next_random(random) % 7 : record_bytes * (next_random(random) % 4);
     if (next_random(random) % 2 == 0) {
         of->size = of->size > by ? of->size - by : 0;
     } else if (of->size + by <= MOST_BYTES) {
@@ -63,20 +66,31 @@ static void run_changed(const struct seed *from, uint64_t *random) {
     LLVMFuzzerTestOneInput(changed.bytes, changed.size);
 }
 
-/* Every number of read came, so that nothing passes emptily. */
+/* Every number came, so that nothing passes emptily. */
 static int each_number_came(void) {
-    static const int asked[] = {0, 1, 2, 3, 16, 17, 6, 7, 8, 9, 10, 11};
-    for (size_t i = 0; i < sizeof asked / sizeof asked[0]; i++) {
+    for (size_t i = 0; i < asked_count; i++) {
         printf("%s%d %llu", i == 0 ? "" : ", ", asked[i], came[asked[i]]);
     }
     printf("\n");
-    for (size_t i = 0; i < sizeof asked / sizeof asked[0]; i++) {
+    for (size_t i = 0; i < asked_count; i++) {
         if (came[asked[i]] < 20) {
             printf("%d came only %llu times\n", asked[i], came[asked[i]]);
             return 0;
         }
     }
     return 1;
+}
+
+/* The seed by itself gets the number of its name, or is granted. */
+static void run_seed(struct seed *into, const char *name) {
+    const char *slash = strrchr(name, '/');
+    int number = atoi(slash == NULL ? name : slash + 1);
+    load(into, name);
+    LLVMFuzzerTestOneInput(into->bytes, into->size);
+    if (number < 0 || number >= NUMBERS || came[number] != ++named[number]) {
+        printf("%s does not get %d\n", name, number);
+        exit(1);
+    }
 }
 
 int main(int count, char **words) {
@@ -87,12 +101,7 @@ int main(int count, char **words) {
         return 2;
     }
     for (int i = 0; i < given; i++) {
-        load(&seeds[i], words[2 + i]);
-        LLVMFuzzerTestOneInput(seeds[i].bytes, seeds[i].size);
-    }
-    if (came[0] != (unsigned long long)given) {
-        printf("of %d seeds %llu are granted\n", given, came[0]);
-        return 1;
+        run_seed(&seeds[i], words[2 + i]);
     }
     for (long left = atol(words[1]); left > 0; left--) {
         run_changed(pick(given, &random), &random);

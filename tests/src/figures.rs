@@ -22,8 +22,8 @@ pub const MOST_PIECES: usize = 200;
 /// "at most 65,536"
 pub const MOST_SHEET_BYTES: usize = 65_536;
 
-/// The numbers, by S-1 and S-2 up to 18, and 0 for granted: for counts by number.
-pub const NUMBERS: usize = 19;
+/// The numbers, by S-1 to S-3 up to 20, and 0 for granted: for counts by number.
+pub const NUMBERS: usize = 21;
 
 /// "'No' gives the number and the piece's ordinal"
 #[derive(Clone, Copy, Debug, PartialEq, Eq)]

@@ -1,5 +1,5 @@
 //! A reference program for document 01, the box-board nesting engine, as change
-//! requests S-1 and S-2 have changed it.
+//! requests S-1 to S-3 have changed it.
 //!
 //! It is written straight from the sentences of the two papers, which are quoted
 //! above the functions that state them, and it prefers the plain way to the
@@ -20,6 +20,7 @@ pub mod figures;
 pub mod generate;
 pub mod laying;
 pub mod outline;
+pub mod path;
 pub mod picture;
 pub mod placing;
 pub mod questions;
@@ -32,6 +33,7 @@ pub use asking::{ask, commit};
 pub use cells::{cover, runs};
 pub use figures::{Figures, Piece, Position, Refusal, Totals};
 pub use laying::{lay, lay_text};
+pub use path::{read_path, write_path};
 pub use placing::place;
 pub use retrace::retrace;
 pub use sheet::{read, write};

@@ -2,13 +2,17 @@
 //! print.
 //!
 //! A text has a line `strip W R N`, then for each piece a line
-//! `piece MASK x,y x,y x,y ..`. `#` begins a comment. After a line `mm` lengths
-//! are millimetres, before it units of 1/8 mm.
+//! `piece MASK x,y x,y x,y ..`, or `path MASK NAME` with the name of a file that
+//! holds its outline as a path. `#` begins a comment. After a line `mm` lengths are
+//! millimetres, before it units of 1/8 mm.
 
 use crate::figures::*;
 use crate::outline::Vertex;
+use crate::path::read_path;
 use crate::retrace::{retrace, shared_by};
 use crate::sheet::{ask_head, list_words, pieces_of_sheet, write};
+use std::ffi::OsStr;
+use std::os::unix::ffi::OsStrExt;
 
 const MOST_BYTES: usize = 262_144;
 const MOST_LINES: usize = 65_535;
@@ -173,13 +177,14 @@ impl Reader {
         match rest.word() {
             b"" => Ok(()),
             b"strip" => self.read_strip(&mut rest),
-            b"piece" => self.read_piece(&mut rest),
+            b"piece" => self.read_piece(&mut rest, |rest, mm| rest.outline(mm)),
+            b"path" => self.read_piece(&mut rest, |rest, _| rest.outline_in_file()),
             b"mm" if rest.is_empty() => {
                 self.millimetres = true;
                 Ok(())
             }
             b"mm" => Err("nothing follows mm"),
-            _ => Err("a line begins with strip, piece or mm"),
+            _ => Err("a line begins with strip, piece, path or mm"),
         }
     }
 
@@ -199,7 +204,7 @@ impl Reader {
         Ok(())
     }
 
-    fn read_piece(&mut self, rest: &mut Rest) -> Result<(), Fault> {
+    fn read_piece(&mut self, rest: &mut Rest, outline: ReadOutline) -> Result<(), Fault> {
         if self.strip.is_none() {
             return Err("the strip comes before the pieces");
         }
@@ -207,21 +212,15 @@ impl Reader {
             return Err("a job has at most 200 pieces");
         }
         let mask = rest.number()?;
-        let mut outline = Vec::new();
-        while !rest.is_empty() {
-            if outline.len() == 2 * MOST_VERTICES {
-                return Err(VERTICES);
-            }
-            outline.extend(rest.vertex(self.millimetres)?);
-        }
-        if outline.len() < 2 * FEWEST_VERTICES {
-            return Err(VERTICES);
-        }
+        let outline = outline(rest, self.millimetres)?;
         self.pieces.push(Piece { outline, mask });
         self.piece_lines.push(self.line);
         Ok(())
     }
 }
+
+/// The words of an outline from what is left of a line, in millimetres or not.
+type ReadOutline = fn(&mut Rest, bool) -> Result<Vec<u16>, Fault>;
 
 /// What is left of a line. What is read is taken from its start.
 struct Rest<'a>(&'a [u8]);
@@ -308,6 +307,50 @@ impl<'a> Rest<'a> {
             return Err(NUMBER);
         }
         Ok([x, self.length(millimetres)?])
+    }
+}
+
+impl Rest<'_> {
+    /// The vertices up to the end of the line.
+    fn outline(&mut self, millimetres: bool) -> Result<Vec<u16>, Fault> {
+        let mut outline = Vec::new();
+        while !self.is_empty() {
+            if outline.len() == 2 * MOST_VERTICES {
+                return Err(VERTICES);
+            }
+            outline.extend(self.vertex(millimetres)?);
+        }
+        if outline.len() < 2 * FEWEST_VERTICES {
+            return Err(VERTICES);
+        }
+        Ok(outline)
+    }
+
+    /// The outline of the path in the file that the rest of the line names.
+    fn outline_in_file(&mut self) -> Result<Vec<u16>, Fault> {
+        if self.is_empty() {
+            return Err("a path has a mask and the name of a file");
+        }
+        // Blanks inside a name belong to it, those after it do not.
+        let end = self.0.iter().rposition(|byte| !is_blank(byte));
+        let name = &self.0[..end.map_or(0, |last| last + 1)];
+        let path = std::fs::read(OsStr::from_bytes(name)).unwrap_or_default();
+        if path.is_empty() {
+            return Err("the file of the path cannot be read or is empty");
+        }
+        let mut outline = vec![0; 2 * MOST_VERTICES];
+        match read_path(&path, &mut outline) {
+            Ok(words) => {
+                outline.truncate(words as usize);
+                Ok(outline)
+            }
+            Err(Refusal { number: 19, .. }) => {
+                Err("the path is not one move, 2 to 63 lines and one close")
+            }
+            Err(_) => {
+                Err("a coordinate of the path is not a multiple of 0.125 mm from 0 to 2000 mm")
+            }
+        }
     }
 }
 

@@ -227,3 +227,47 @@ fn runs_out_of_limits() {
     assert!(reference::runs(&[], 0, 2).is_empty());
     assert!(reference::runs(&[5], 0, 2).is_empty());
 }
+
+#[test]
+fn read_path_on_any_input() {
+    let mut numbers = [0; NUMBERS];
+    for seed in 0..6_000 {
+        let mut random = Random::new(seed);
+        let path = match random.index(4) {
+            0 => any_bytes_of_path(&mut random),
+            1 => {
+                let mut path = sound_path(&mut random);
+                let place = random.index(path.len());
+                path[place] = random.word(0, 255) as u8;
+                path
+            }
+            _ => any_path(&mut random),
+        };
+        let length = random.index(140);
+        numbers[number(&check_read_path(&path, length))] += 1;
+    }
+    all_came_up(&numbers, &[0, 19, 20, 15]);
+}
+
+/// Bytes many of which are steps.
+fn any_bytes_of_path(random: &mut Random) -> Vec<u8> {
+    let length = random.index(600);
+    (0..length)
+        .map(|_| match random.index(3) {
+            0 => random.word(0, 255) as u8,
+            _ => random.word(0, 4) as u8,
+        })
+        .collect()
+}
+
+#[test]
+fn write_path_on_any_input() {
+    let mut numbers = [0; NUMBERS];
+    for seed in 0..6_000 {
+        let mut random = Random::new(seed);
+        let outline = some_outline(&mut random);
+        let length = random.index(600);
+        numbers[number(&check_write_path(&outline, length))] += 1;
+    }
+    all_came_up(&numbers, &[0, 7, 8, 15]);
+}

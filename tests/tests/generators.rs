@@ -21,6 +21,7 @@ fn the_same_seed_gives_the_same() {
             sound_strip(&mut random),
             sound_list(&mut random),
             sound_sheet(&mut random),
+            any_path(&mut random),
         )
     };
     assert_eq!(make(1), make(1));
@@ -46,6 +47,10 @@ fn each_kind_is_listed_once() {
     assert_eq!(names(&damages), SheetDamage::ALL.len());
     let kinds = CommitKind::ALL.map(|kind| format!("{kind:?}"));
     assert_eq!(names(&kinds), CommitKind::ALL.len());
+    let damages = ShapeDamage::ALL.map(|damage| format!("{damage:?}"));
+    assert_eq!(names(&damages), ShapeDamage::ALL.len());
+    let damages = CoordinateDamage::ALL.map(|damage| format!("{damage:?}"));
+    assert_eq!(names(&damages), CoordinateDamage::ALL.len());
 }
 
 #[test]

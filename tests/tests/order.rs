@@ -1,10 +1,12 @@
 //! Where several questions say no, the first in the call's order answers.
 //!
 //! "Order: rising, 7 to 11 piece by piece", but S-1: 16 and 17 "both directly
-//! after 3 wherever 3 is asked", and S-2: 18 in a commit "asked instead of 13".
+//! after 3 wherever 3 is asked", S-2: 18 in a commit "asked instead of 13", and S-3:
+//! "the shape of the whole path first".
 
 mod common;
 use common::*;
+use reference::generate::paths::path_of;
 
 /// A bow tie walked twice: its edges change order, and it has no inside.
 const CROSSED_TWICE: [u16; 16] = [0, 0, 1, 2, 1, 0, 0, 2, 0, 0, 1, 2, 1, 0, 0, 2];
@@ -193,6 +195,36 @@ fn seven_of_the_whole_piece_before_eight() {
     assert_eq!(check_read(&plan.bytes(), 90), Err(no(7, 1)));
     let words = list(&[(&FAR, 1)]);
     assert_eq!(check_write((10, 2, 10), &words[..8], 90), Err(no(7, 1)));
+}
+
+/// "The shape of the whole path first": a byte after the close comes before any
+/// coordinate, and a coordinate before the output.
+#[test]
+fn read_path_in_order() {
+    let mut path = path_of(&[[f32::NAN.to_bits(), 0], [0, 0], [0, 1]]);
+    path.push(3);
+    assert_eq!(check_read_path(&path, 0), Err(no(19, 0)));
+    path.pop();
+    assert_eq!(check_read_path(&path, 0), Err(no(20, 0)));
+    path[1..5].fill(0);
+    assert_eq!(check_read_path(&path, 0), Err(no(20, 0)));
+    path[23] = 0;
+    assert_eq!(check_read_path(&path, 0), Err(no(15, 0)));
+    assert_eq!(check_read_path(&path, 5), Err(no(15, 0)));
+    assert_eq!(check_read_path(&path, 6), Ok(vec![0; 6]));
+}
+
+#[test]
+fn write_path_in_order() {
+    assert_eq!(check_write_path(&FAR[..5], 0), Err(no(7, 1)));
+    assert_eq!(check_write_path(&[16_001; 130], 0), Err(no(7, 1)));
+    assert_eq!(check_write_path(&FAR, 0), Err(no(8, 1)));
+    assert_eq!(check_write_path(&S, 36), Err(no(15, 0)));
+    // No question after 8: an outline that no other call would take is written.
+    for outline in [&FLAT[..], &CROSSED_TWICE] {
+        let size = 9 * outline.len() / 2 + 1;
+        assert!(check_write_path(outline, size).is_ok());
+    }
 }
 
 #[test]

@@ -70,7 +70,7 @@ fn bad_lines() {
     bad("mm mm\n", "line 1: nothing follows mm");
     bad(SQUARE, "line 1: the strip comes before the pieces");
     for line in ["hole 1 0,0", "pieces", "piece,", "MM", "15", "\x0c"] {
-        bad_line(line, "a line begins with strip, piece or mm");
+        bad_line(line, "a line begins with strip, piece, path or mm");
     }
 }
 

@@ -19,9 +19,10 @@ use Rattle.defs.specs.Computing.Words.{limitsNo, lengthb, recordsOf}
 use Rattle.defs.specs.Computing.Calls.{refusal}
 use Rattle.defs.specs.Computing.Sheets.{q1b, q2b, pieceOf, pieceRecords, sheetNo, sheetPieces}
 use Rattle.defs.specs.Computing.Lay.{placedIn, usedIn, entriesWords, layEntries, layAnswer, layOutput, LayLeaves}
+use Rattle.laws.proofs.Tests.{asked}
 use Rattle.laws.proofs.Walks.{chain-few}
 use Rattle.laws.proofs.Entries.{length-entriesFrom, length-entriesWords}
-use Rattle.sheets.proofs.Asking.{asked, some-none}
+use Rattle.sheets.proofs.Asking.{some-none}
 use Rattle.sheets.proofs.Answers.{said, not-refused}
 use Rattle.byteput.proofs.Asks.{ask-same, said-same}
 use Rattle.byteput.proofs.Caps.{Capped, uncapped, room-same}

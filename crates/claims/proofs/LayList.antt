@@ -23,9 +23,10 @@ use Rattle.defs.specs.Computing.Words.{limitsNo, lengthb, recordsOf}
 use Rattle.defs.specs.Computing.Calls.{refusal, cleared, openAnswer, Left, OpenLeaves, OpenStep}
 use Rattle.defs.specs.Computing.Sheets.{q1b, q2b, sheetNo, pieceRecords, sheetPieces}
 use Rattle.defs.specs.Computing.Lay.{fateOf, placedIn, usedIn, layEntries, layAnswer, layOutput, LayLeaves, LayStep}
+use Rattle.laws.proofs.Tests.{asked}
 use Rattle.laws.proofs.Questions.{limits-none, length-decides}
 use Rattle.laws.proofs.Entries.{length-entriesFrom}
-use Rattle.sheets.proofs.Asking.{asked, some-none}
+use Rattle.sheets.proofs.Asking.{some-none}
 use Rattle.sheets.proofs.Passing.{Held, none-held}
 use Rattle.sheets.proofs.Answers.{not-refused}
 use Rattle.tables.proofs.Empty.{column-none, empty-writable}

@@ -32,7 +32,7 @@ use Rattle.claims.specs.Demand1.{Past}
 use Rattle.claims.proofs.CoverCells.{granted}
 use Rattle.claims.proofs.LayList.{lay-granted}
 
-past : (k : ℕ) (ws out out' : List ℕ) → length ws ≡ k → k ≤ length out → out' ≡ ws ++ drop k out → Past k out out'
+pub past : (k : ℕ) (ws out out' : List ℕ) → length ws ≡ k → k ≤ length out → out' ≡ ws ++ drop k out → Past k out out'
 past k ws out out' long room is =
     record {
       long = ap length is ∙ omega (arith, length-append ws (drop k out), length-drop k out);

@@ -20,6 +20,7 @@ use Rattle.packing.specs.Packed.{first16, second16, third16, fourth16, high32, 
 use Rattle.claims.specs.Numbers.{Questions, asks, grants, Answers, RunsAre, openQuestions, coverQuestions, placeQuestions, commitQuestions, chainQuestions, listQuestions, readQuestions, writeQuestions, LaidTotals, layQuestions, layQuestionsTo}
 use Rattle.strokes.specs.Stroke.{DrawnOnce, FirstShared}
 use Rattle.knife.specs.Retraced.{retraceQuestions}
+use Rattle.pathclaims.specs.Paths.{readPathQuestions, writePathQuestions}
 use Rattle.control.specs.Answered.{taken, takenWide}
 
 -- no number is 0, and there are k values in the end
@@ -160,3 +161,9 @@ retrace-ended o =
     (g :
     ((vs ≡ 0 ∷ 0 ∷ []) × DrawnOnce o) ⊎ ((i : ℕ) × (j : ℕ) × (vs ≡ (i + 1) ∷ (j + 1) ∷ []) × FirstShared o i j)).
     ⊎-elim (λ h. ap length (h .0)) (λ h. ap length (h .2)) g
+
+pub read-path-ended : (path : List ℕ) (words : ℕ) → Ended 1 (readPathQuestions path words)
+read-path-ended path words = more λ _. more λ _. more λ _. end λ vs e. ap length e
+
+pub write-path-ended : (o : List ℕ) (bytes : ℕ) → Ended 1 (writePathQuestions o bytes)
+write-path-ended o bytes = more λ _. more λ _. more λ _. end λ vs e. ap length e

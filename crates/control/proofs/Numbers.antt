@@ -4,12 +4,15 @@ use mathlib.Core.Path.{subst}
 use lib.ListN.{length}
 use Rattle.defs.specs.Answer.{opening, covering, placing, asking, committing, reading, writing, laying, retracing}
 use Rattle.defs.specs.Meaning.Strip.{Holds}
+use Rattle.pathdefs.specs.Answer.{pathReading}
 use Rattle.claims.specs.Numbers.{Answers, openQuestions, coverQuestions, placeQuestions, askQuestions, commitQuestions, readQuestions, writeQuestions, layQuestions}
 use Rattle.claims.proofs.Numbers.{demand1-numbers}
 use Rattle.knife.specs.Retraced.{retraceQuestions, Retrace-asks}
 use Rattle.knife.proofs.Retraced.{retrace-asks}
+use Rattle.pathclaims.specs.Paths.{readPathQuestions, writePathQuestions}
+use Rattle.pathclaims.proofs.Paths.{paths}
 use Rattle.control.specs.Answered.{PackedNumbers}
-use Rattle.control.proofs.Ends.{taken-is, taken-wide-is, open-ended, cover-ended, place-ended, commit-ended, read-ended, write-ended, lay-ended, retrace-ended}
+use Rattle.control.proofs.Ends.{taken-is, taken-wide-is, open-ended, cover-ended, place-ended, commit-ended, read-ended, write-ended, lay-ended, retrace-ended, read-path-ended, write-path-ended}
 
 pub packed-numbers : PackedNumbers
 packed-numbers =
@@ -59,4 +62,14 @@ packed-numbers =
           let qs = retraceQuestions o in
           let h : Answers qs (retracing (x .answer)) = unfold Retrace-asks in retrace-asks o (x .answer) (x .step) in
           subst (Answers qs) (taken-is 2 n qs (retracing (x .answer)) (x .packs) (retrace-ended o) h) h;
+      read-path-asks =
+          λ {path} {out} {n} x.
+          let qs = readPathQuestions path (length out) in
+          let h = paths .read-asks (x .step) in
+          subst (Answers qs) (taken-wide-is n qs (pathReading (x .answer)) (x .packs) (read-path-ended path (length out)) h) h;
+      write-path-asks =
+          λ {o} {out} {n} x.
+          let qs = writePathQuestions o (length out) in
+          let h = paths .write-asks (x .step) in
+          subst (Answers qs) (taken-wide-is n qs (writing (x .answer)) (x .packs) (write-path-ended o (length out)) h) h;
     }

@@ -9,8 +9,9 @@ use Rattle.defs.specs.declared.Position.{Position}
 use Rattle.defs.specs.Answer.{Outcome}
 use Rattle.defs.specs.Meaning.Strip.{Holds}
 use Rattle.packing.specs.Packed.{first16, second16, third16, fourth16, high32}
-use Rattle.packing.specs.Steps.{OpenPacked, CoverPacked, PlacePacked, AskPacked, CommitPacked, ReadPacked, WritePacked, LayPacked, RetracePacked}
+use Rattle.packing.specs.Steps.{OpenPacked, CoverPacked, PlacePacked, AskPacked, CommitPacked, ReadPacked, WritePacked, LayPacked, RetracePacked, PathReadPacked, PathWritePacked}
 use Rattle.knife.specs.Retraced.{retraceQuestions}
+use Rattle.pathclaims.specs.Paths.{readPathQuestions, writePathQuestions}
 use Rattle.claims.specs.Numbers.{Answers, openQuestions, coverQuestions, placeQuestions, askQuestions, commitQuestions, readQuestions, writeQuestions, layQuestions}
 
 -- vikelodu_number; then vikelodu_ordinal where it is not 0, else so many values of 16 bits: vikelodu_turn, vikelodu_column and
@@ -23,7 +24,7 @@ taken values n =
       values = cond (eqb (first16 n) 0) (take values (second16 n ∷ third16 n ∷ fourth16 n ∷ [])) [];
     }
 
--- the same with the one value of vikelodu_runs or vikelodu_size
+-- the same with the one value of vikelodu_runs, vikelodu_size or vikelodu_words
 abbrev pub takenWide : ℕ → Outcome
 takenWide n =
     record {
@@ -56,3 +57,9 @@ pub record PackedNumbers : Type 0 where
       {b s out work : List ℕ} {n : ℕ} {s' out' work' : List ℕ} → LayPacked b s out work n s' out' work' →
       Answers (layQuestions b (length s) (length out) (length work)) (taken 2 n)
   pub retrace-asks : {o : List ℕ} {n : ℕ} → RetracePacked o n → Answers (retraceQuestions o) (taken 2 n)
+  pub read-path-asks :
+      {path out : List ℕ} {n : ℕ} {out' : List ℕ} → PathReadPacked path out n out' →
+      Answers (readPathQuestions path (length out)) (takenWide n)
+  pub write-path-asks :
+      {o out : List ℕ} {n : ℕ} {out' : List ℕ} → PathWritePacked o out n out' →
+      Answers (writePathQuestions o (length out)) (takenWide n)

@@ -11,7 +11,7 @@ use native.Mathlib.Decide.{decLt}
 use lib.Dec.{leb, ltb, eqb, eqb·suc-zero}
 use lib.ListN.{length, getD}
 use borrow.Author.Tests.{leb-true, ltb-true, eqb-true, not-true, not-false, le-leb, lt-ltb, eq-eqb, ne-eqb}
-use Rattle.defs.specs.Computing.Test.{anyTo, allTo, all}
+use Rattle.defs.specs.Computing.Test.{ask, anyTo, allTo, all}
 
 -- The test b is true exactly when P holds.
 abbrev pub Decides : Bool → Type 0 → Type 0
@@ -157,3 +157,8 @@ said-no {r} e y = sym e ∙ not-true r y
 
 pub said-yes : {r b : Bool} → r ≡ b → not r ≡ false → b ≡ true
 said-yes {r} e y = sym e ∙ not-false r y
+
+-- questions that are asked one after another: what comes out is not this "no", so the answer was yes
+pub asked : {A : Type 0} {no ok : A} (t : Bool) (rest : Unit {0} → A) → ask t no rest ≡ ok → ¬ (no ≡ ok) → (t ≡ true) × (rest tt ≡ ok)
+asked true rest e n = (refl, e)
+asked false rest e n = absurd (n e)

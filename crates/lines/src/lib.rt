@@ -1,9 +1,11 @@
-// The lines of a text, into a cut list. A text has a line `strip W R N`, then for each piece a line `piece MASK x,y x,y x,y ..`. `#`
-// begins a comment; after a line `mm` lengths are millimetres, before it units of 1/8 mm.
+// The lines of a text, into a cut list. A text has a line `strip W R N`, then for each piece a line `piece MASK x,y x,y x,y ..`, or
+// `path MASK NAME` with the name of a file that holds its outline as a path. `#` begins a comment; after a line `mm` lengths are
+// millimetres, before it units of 1/8 mm.
 
 ghost use Prim.Native.Nat.{_+_, _≤_, _<_};
 ghost use lib.ListN.{length};
-ghost use Rattle.lines.specs.Within.{Within};
+ghost use Rattle.pathfile.specs.Within.{Within};
+use pathfile::Outline;
 use tokens::Number;
 use tokens::Vertex;
 use tokens::fault;
@@ -97,11 +99,6 @@ fn set_pair(list: &mut [u16], at: usize, x: u16, y: u16)
     list[at + 1] = y;
 }
 
-pub enum Outline {
-    Vertices(usize),
-    Bad(Fault),
-}
-
 // The vertices to the end of the line, from place `to` of the list.
 fn vertices(line: &[u8], at: usize, mm: bool, list: &mut [u16], to: usize) -> Outline
     requires { ⌜ to + 128 ≤ length (now list) ⌝ }
@@ -127,6 +124,24 @@ fn vertices(line: &[u8], at: usize, mm: bool, list: &mut [u16], to: usize) -> Ou
     Outline::Vertices(k)
 }
 
+// The vertices of a piece, typed or in a file, from place `to` of the list.
+fn piece_vertices(
+    line: &[u8],
+    at: usize,
+    typed: bool,
+    mm: bool,
+    list: &mut [u16],
+    to: usize,
+) -> Outline
+    requires { ⌜ to + 128 ≤ length (now list) ⌝ }
+    ensures { λ a. ⌜ Within a ⌝ }
+{
+    if typed {
+        return vertices(line, at, mm, list, to);
+    }
+    pathfile::put_outline(line, at, list, to)
+}
+
 // The count and the mask of a piece before its vertices, which are at the end of the list.
 fn add_piece(job: Job, list: &mut [u16], count: usize, mask: u16) -> Line
     requires { ⌜ job .words + 130 ≤ length (now list) ⌝ ∗ ⌜ job .pieces < 200 ⌝ ∗ ⌜ count ≤ 64 ⌝ }
@@ -143,17 +158,17 @@ fn add_piece(job: Job, list: &mut [u16], count: usize, mask: u16) -> Line
 }
 
 // The vertices of a piece of this mask.
-fn outline_line(line: &[u8], at: usize, mask: u16, job: Job, list: &mut [u16]) -> Line
+fn outline_line(line: &[u8], at: usize, typed: bool, mask: u16, job: Job, list: &mut [u16]) -> Line
     requires { ⌜ job .words + 130 ≤ length (now list) ⌝ ∗ ⌜ job .pieces < 200 ⌝ }
 {
-    match vertices(line, at, job.mm, list, job.words + 2) {
+    match piece_vertices(line, at, typed, job.mm, list, job.words + 2) {
         Outline::Vertices(n) => add_piece(job, list, n, mask),
         Outline::Bad(f) => Line::Bad(f),
     }
 }
 
 // Mask and vertices.
-fn piece_line(line: &[u8], at: usize, job: Job, list: &mut [u16]) -> Line
+fn piece_line(line: &[u8], at: usize, typed: bool, job: Job, list: &mut [u16]) -> Line
     requires { ⌜ 130 ≤ length (now list) ⌝ }
 {
     if job.strip == 0 {
@@ -167,7 +182,7 @@ fn piece_line(line: &[u8], at: usize, job: Job, list: &mut [u16]) -> Line
         return Line::Bad(fault::PIECES);
     }
     match tokens::next_number(line, at, false) {
-        Number::Is(mask, next) => outline_line(line, next, mask, job, list),
+        Number::Is(mask, next) => outline_line(line, next, typed, mask, job, list),
         Number::Bad(f) => Line::Bad(f),
     }
 }
@@ -176,6 +191,7 @@ fn piece_line(line: &[u8], at: usize, job: Job, list: &mut [u16]) -> Line
 pub enum Kind {
     Strip,
     Piece,
+    Path,
     Mm,
     Other,
 }
@@ -183,6 +199,9 @@ pub enum Kind {
 fn kind_of(word: &[u8]) -> Kind {
     if tokens::same(word, b"piece") {
         return Kind::Piece;
+    }
+    if tokens::same(word, b"path") {
+        return Kind::Path;
     }
     if tokens::same(word, b"strip") {
         return Kind::Strip;
@@ -204,7 +223,8 @@ fn bare_line(line: &[u8], job: Job, list: &mut [u16]) -> Line
     let e = tokens::word_end(line, a);
     match kind_of(&line[a..e]) {
         Kind::Strip => strip_line(line, e, job),
-        Kind::Piece => piece_line(line, e, job, list),
+        Kind::Piece => piece_line(line, e, true, job, list),
+        Kind::Path => piece_line(line, e, false, job, list),
         Kind::Mm => mm_line(line, e, job),
         Kind::Other => Line::Bad(fault::WORD),
     }

@@ -11,10 +11,11 @@ use lib.Seq.{drop-drop, getD-drop}
 use borrow.Author.Tests.{le-leb, lt-leb}
 use Rattle.defs.specs.Computing.Calls.{q9b}
 use Rattle.defs.specs.Computing.Sheets.{verticesIn, listTails, listPieces, listPieceNo, q6Listb, q7Listb, firstNo}
+use Rattle.laws.proofs.Tests.{asked}
 use Rattle.laws.proofs.Questions.{question-6-list, question-7-list}
 use Rattle.asked.specs.Answers.{FirstNo}
 use Rattle.records.proofs.Refusals.{no-end, no-on, no-here}
-use Rattle.sheets.proofs.Asking.{asked, not-zero}
+use Rattle.sheets.proofs.Asking.{not-zero}
 use Rattle.lists.specs.Asked.{PieceWhole, PieceNo, NoneRefused, FirstRefused, firstRefusal}
 use Rattle.recordbytes.proofs.Tails.{piecesFrom, count-is, tail-is, vertices-sum}
 

@@ -17,6 +17,9 @@ use Rattle.defs.specs.Computing.Lay.{LayStep}
 use Rattle.defs.specs.Computing.Sheets.{ReadStep, WriteStep}
 use Rattle.defs.specs.Computing.Bytes.{OnBytes, OpenBytesStep, LayBytesStep}
 use Rattle.strokes.specs.Retrace.{RetraceStep}
+use Rattle.pathdefs.specs.declared.PathReading.{PathReading}
+use Rattle.pathdefs.specs.Answer.{pathReading}
+use Rattle.pathdefs.specs.Computing.Paths.{PathReadStep, PathWriteStep}
 use Rattle.packing.specs.Packed.{Packs, PacksWide}
 
 pub record OpenPacked (W R N : ℕ) (s : List ℕ) (n : ℕ) (s' : List ℕ) : Type 0 where
@@ -70,6 +73,18 @@ pub record RetracePacked (o : List ℕ) (n : ℕ) : Type 0 where
   pub answer : Retracing
   pub step : RetraceStep o answer
   pub packs : Packs n (retracing answer)
+
+-- the outline's words in the high 32 bits
+pub record PathReadPacked (b out : List ℕ) (n : ℕ) (out' : List ℕ) : Type 0 where
+  pub answer : PathReading
+  pub step : PathReadStep b out answer out'
+  pub packs : PacksWide n (pathReading answer)
+
+-- the path's bytes in the high 32 bits
+pub record PathWritePacked (o out : List ℕ) (n : ℕ) (out' : List ℕ) : Type 0 where
+  pub answer : Writing
+  pub step : PathWriteStep o out answer out'
+  pub packs : PacksWide n (writing answer)
 
 -- The same on buffers passed as bytes.
 

@@ -1,6 +1,8 @@
 // An answer of several numbers in one of 64 bits.
 
+ghost use mathlib.Core.List.{[], _∷_};
 ghost use Rattle.defs.specs.Answer.{opening, covering, placing, asking, committing, reading, writing, laying, retracing};
+ghost use Rattle.pathdefs.specs.Answer.{pathReading};
 ghost use Rattle.packing.specs.Packed.{Four, Packs, PacksWide};
 use defs::Asking;
 use defs::Committing;
@@ -12,11 +14,19 @@ use defs::Reading;
 use defs::Refusal;
 use defs::Retracing;
 use defs::Writing;
+use pathdefs::PathReading;
 
 fn pack(a: u16, b: u16, c: u16, d: u16) -> u64
     ensures { λ r. ⌜ Four r a b c d ⌝ }
 {
     a as u64 + 65536 * (b as u64) + 4294967296 * (c as u64) + 281474976710656 * (d as u64)
+}
+
+// One number of 32 bits, in the high ones.
+fn pack_wide(n: u32) -> u64
+    ensures { λ r. ⌜ PacksWide r (record { number = 0; ordinal = 0; values = n ∷ [] }) ⌝ }
+{
+    4294967296 * (n as u64)
 }
 
 fn pack_refusal(f: Refusal) -> u64
@@ -38,7 +48,7 @@ pub fn pack_covering(a: Covering) -> u64
     ensures { λ r. ⌜ PacksWide r (covering a) ⌝ }
 {
     match a {
-        Covering::Runs(n) => 4294967296 * (n as u64),
+        Covering::Runs(n) => pack_wide(n),
         Covering::Refused(f) => pack_refusal(f),
     }
 }
@@ -83,7 +93,7 @@ pub fn pack_writing(a: Writing) -> u64
     ensures { λ r. ⌜ PacksWide r (writing a) ⌝ }
 {
     match a {
-        Writing::Written(n) => 4294967296 * (n as u64),
+        Writing::Written(n) => pack_wide(n),
         Writing::Refused(f) => pack_refusal(f),
     }
 }
@@ -104,5 +114,14 @@ pub fn pack_retracing(a: Retracing) -> u64
         Retracing::Nowhere => 0,
         Retracing::Twice(p) => pack(0, p.first, p.second, 0),
         Retracing::Refused(f) => pack_refusal(f),
+    }
+}
+
+pub fn pack_path_reading(a: PathReading) -> u64
+    ensures { λ r. ⌜ PacksWide r (pathReading a) ⌝ }
+{
+    match a {
+        PathReading::Words(n) => pack_wide(n),
+        PathReading::Refused(f) => pack_refusal(f),
     }
 }

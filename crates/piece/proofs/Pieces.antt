@@ -9,10 +9,11 @@ use Rattle.defs.specs.Computing.Test.{endsBy}
 use Rattle.defs.specs.Computing.Calls.{q9b, outlineNo}
 use Rattle.defs.specs.Computing.Sheets.{pieceOf, sheetPieceNo}
 use Rattle.defs.specs.Computing.Cells.{Rows}
+use Rattle.laws.proofs.Tests.{asked}
 use Rattle.geom.proofs.Checks.{none-no-is}
 use Rattle.tables.proofs.Copies.{NoneBefore}
 use Rattle.asked.proofs.InOrder.{Ordered}
-use Rattle.sheets.proofs.Asking.{asked, not-zero}
+use Rattle.sheets.proofs.Asking.{not-zero}
 use Rattle.sheets.proofs.Chains.{Ill}
 use Rattle.reader.specs.Records.{recordNumber}
 use Rattle.records.specs.Records.{nextVertex, Gathered}

@@ -16,6 +16,7 @@ use Rattle.claims.proofs.Choice.{only-numbers-open}
 use Rattle.claims.proofs.AnyNumbers.{any-numbers}
 use Rattle.knife.proofs.Safe.{knife-safe, list-knife-safe, lay-knife-safe}
 use Rattle.knife.proofs.Retraced.{retrace-asks}
+use Rattle.pathclaims.proofs.Paths.{paths}
 use Rattle.control.proofs.Numbers.{packed-numbers}
 use Rattle.control.proofs.Lists.{packed-demand3, packed-lay}
 use Rattle.control.proofs.Bytes.{bytes-are-words, bytes-demand3}
@@ -46,6 +47,7 @@ promises =
       job-knife = lay-knife-safe;
       retraced = retrace-asks;
       same-retraced = turn-keeps;
+      paths = paths;
       c-numbers = packed-numbers;
       c-list = packed-demand3;
       c-job = packed-lay;

@@ -1,8 +1,9 @@
 -- All that is promised, on one page; which theorem holds each promise is in proofs/Promises. A call's contract is its step, and nothing
 -- else, for every input: open::open OpenStep, cover::cover CoverStep, place::place PlaceStep, ask::ask AskStep, commit::commit
--- CommitStep, reads::read ReadStep, writes::write WriteStep, laying::lay LayStep, retrace::retrace RetraceStep; vikelodu's C functions
--- the same steps, packed (packing/specs/Steps); text::lay_text, what program lay prints, layText. The promises are about steps, so they
--- hold of every program whose calls keep these contracts. Assumes nothing.
+-- CommitStep, reads::read ReadStep, writes::write WriteStep, laying::lay LayStep, retrace::retrace RetraceStep,
+-- readpath::read_path PathReadStep, writepath::write_path PathWriteStep; vikelodu's C functions the same steps, packed
+-- (packing/specs/Steps); text::lay_text, what program lay prints, layText. The promises are about steps, so they hold of every program
+-- whose calls keep these contracts. Assumes nothing.
 use mathlib.Core.Logic.{_↔_}
 use mathlib.Core.List.{List}
 use Prim.Native.Nat.{ℕ, _≤_, _<_}
@@ -22,6 +23,7 @@ use Rattle.claims.specs.Wrong.{WrongLists}
 use Rattle.claims.specs.Choice.{OnlyNumbersOpen, AnyNumbers}
 use Rattle.knife.specs.Safe.{Knife-safe, List-knife-safe, Lay-knife-safe}
 use Rattle.knife.specs.Retraced.{Retrace-asks}
+use Rattle.pathclaims.specs.Paths.{Paths}
 use Rattle.control.specs.Answered.{PackedNumbers}
 use Rattle.control.specs.Lists.{Packed-demand3, Packed-lay}
 use Rattle.control.specs.Bytes.{BytesAreWords, Bytes-demand3}
@@ -61,6 +63,8 @@ pub record Promises : Type 1 where
   pub job-knife : Lay-knife-safe
   pub retraced : Retrace-asks
   pub same-retraced : (o : List ℕ) → 0 < sides o → (t : ℕ) → t ≤ mostTurn → DrawnOnce (turned o t) ↔ DrawnOnce o
+  -- Paths of the drawing program: the questions of both calls and what they leave; a path reads back; nothing is rounded.
+  pub paths : Paths
   -- The C functions: what include/vikelodu.h reads from an answer, lists of their calls, a laid job; buffers passed as bytes.
   pub c-numbers : PackedNumbers
   pub c-list : Packed-demand3

@@ -19,9 +19,9 @@ use Rattle.defs.specs.Computing.Words.{limitsNo}
 use Rattle.defs.specs.Computing.Calls.{refusal}
 use Rattle.defs.specs.Computing.Sheets.{q1b, q2b, pieceOf, pieceRecords, sheetPieces, sheetPieceNo, firstNo, sheetNo, readAnswer, readOutput, ReadStep}
 use Rattle.laws.proofs.Questions.{question-1, question-2, limits-none}
-use Rattle.laws.proofs.Tests.{pos-not-zero}
+use Rattle.laws.proofs.Tests.{pos-not-zero, asked}
 use Rattle.laws.proofs.Walks.{chain-few}
-use Rattle.sheets.proofs.Asking.{asked, not-zero, first-none}
+use Rattle.sheets.proofs.Asking.{not-zero, first-none}
 use Rattle.sheets.proofs.Answers.{said, passed, figuresOf, read-grants}
 use Rattle.records.specs.Records.{PiecesIll}
 use Rattle.cutlist.specs.Pieces.{VertexEnds, AllEnd, end-none, end-more, ChainEnds, PiecesRoom}

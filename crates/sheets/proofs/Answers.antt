@@ -17,7 +17,7 @@ use Rattle.defs.specs.Meaning.Limits.{mostBytes}
 use Rattle.defs.specs.Meaning.Sheet.{sheetW, sheetR, sheetN, listWords}
 use Rattle.defs.specs.Computing.Calls.{refusal}
 use Rattle.defs.specs.Computing.Sheets.{sheetNo, sheetPieces, readAnswer, sizeOf, listPieces, listNo, writeAnswer}
-use Rattle.sheets.proofs.Asking.{asked}
+use Rattle.laws.proofs.Tests.{asked}
 use Rattle.sheets.proofs.Passing.{Held, none-held}
 use Rattle.sheets.proofs.ListBack.{Accepted, accepted}
 

@@ -1,5 +1,4 @@
--- Questions asked one after another, and pieces asked one after another: where no "no" comes out, each answer was yes. And what it says of
--- a piece that it passes 7 to 11.
+-- Pieces asked one after another: where no "no" comes out, each answer was yes. And what it says of a piece that it passes 7 to 11.
 -- Assumes nothing.
 use mathlib.Core.Path.{_≡_, refl}
 use mathlib.Core.Logic.{_↔_}
@@ -11,17 +10,11 @@ use native.Mathlib.Omega.{arith}
 use lib.Dec.{eqb}
 use borrow.Author.Tests.{eqb-true, eq-eqb}
 use Rattle.defs.specs.Meaning.Sheet.{Piece}
-use Rattle.defs.specs.Computing.Test.{ask}
 use Rattle.defs.specs.Computing.Calls.{q7b, q9b, outlineNo, refusal}
 use Rattle.defs.specs.Computing.Sheets.{firstNo}
 use Rattle.laws.proofs.Questions.{question-7}
 use Rattle.geom.proofs.Checks.{none-no-is}
 use Rattle.sheets.proofs.PiecesBack.{Each, nothing-left, and-more, Shaped}
-
--- questions that are asked one after another: what comes out is not this "no", so the answer was yes
-pub asked : {A : Type 0} {no ok : A} (t : Bool) (rest : Unit {0} → A) → ask t no rest ≡ ok → ¬ (no ≡ ok) → (t ≡ true) × (rest tt ≡ ok)
-asked true rest e n = (refl, e)
-asked false rest e n = absurd (n e)
 
 pub some-none : {A : Type 0} {a : A} → ¬ (some a ≡ none)
 some-none e = let z : _≡_ {A = ℕ} 0 1 = cc in omega arith

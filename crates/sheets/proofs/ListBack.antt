@@ -18,9 +18,10 @@ use Rattle.defs.specs.Meaning.Question.{Question6List, Question7List}
 use Rattle.defs.specs.Computing.Words.{limitsNo}
 use Rattle.defs.specs.Computing.Calls.{q9b, outlineNo}
 use Rattle.defs.specs.Computing.Sheets.{q6Listb, q7Listb, firstNo, listTails, listPieceNo, listPieces, listNo}
+use Rattle.laws.proofs.Tests.{asked}
 use Rattle.laws.proofs.Questions.{limits-none, question-6-list, question-7-list}
 use Rattle.sheets.proofs.PiecesBack.{Each, nothing-left, and-more, Shaped}
-use Rattle.sheets.proofs.Asking.{asked, some-none, not-zero, first-none, PiecePasses, shaped}
+use Rattle.sheets.proofs.Asking.{some-none, not-zero, first-none, PiecePasses, shaped}
 
 -- the piece with which words begin
 pub record Complete (R : ℕ) (ws : List ℕ) : Type 0 where

@@ -15,12 +15,12 @@ use Rattle.defs.specs.Meaning.Question.{Question7Sheet}
 use Rattle.defs.specs.Computing.Test.{endsBy}
 use Rattle.defs.specs.Computing.Words.{limitsNo}
 use Rattle.defs.specs.Computing.Sheets.{q1b, q2b, q6b, pieceRecords, verticesOf, pieceOf, sheetPieceNo, firstNo, sheetNo, sheetPieces}
-use Rattle.laws.proofs.Tests.{and-both}
+use Rattle.laws.proofs.Tests.{and-both, asked}
 use Rattle.laws.proofs.Questions.{question-1, question-2, limits-none}
 use Rattle.laws.proofs.Walks.{chain-few}
 use Rattle.laws.proofs.SheetChains.{chain-of, chain-ends, chain-is, question-7-sheet}
 use Rattle.sheets.proofs.PiecesBack.{Each, nothing-left, and-more}
-use Rattle.sheets.proofs.Asking.{asked, some-none, not-zero, first-none, PiecePasses, passes-7}
+use Rattle.sheets.proofs.Asking.{some-none, not-zero, first-none, PiecePasses, passes-7}
 
 -- a piece record with vertex chain vs, as it is read
 module _ {b : List ℕ} {r : ℕ} {vs : List ℕ} (c : VertexChain b r vs) where

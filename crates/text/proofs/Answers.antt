@@ -21,8 +21,9 @@ use Rattle.defs.specs.Computing.Words.{limitsNo, lengthb}
 use Rattle.defs.specs.Computing.Sheets.{q1b, q2b, q6b, pieceOf, pieceRecords, sheetPieces, sheetNo}
 use Rattle.defs.specs.Computing.Lay.{entriesWords, layEntries, layAnswer, layOutput, LayStep}
 use Rattle.defs.specs.Computing.Text.{spaced, line, entryLines, programStrip, programWork, layText}
+use Rattle.laws.proofs.Tests.{asked}
 use Rattle.laws.proofs.Questions.{question-2}
-use Rattle.sheets.proofs.Asking.{asked, some-none}
+use Rattle.sheets.proofs.Asking.{some-none}
 use Rattle.sheets.proofs.Passing.{few-read}
 use Rattle.sheets.proofs.Answers.{said, figuresOf, not-refused}
 use Rattle.words.specs.Put.{Put}

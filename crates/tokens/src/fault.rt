@@ -31,3 +31,11 @@ pub const LINES: Fault = 12;
 pub const NO_STRIP: Fault = 13;
 
 pub const LONG: Fault = 14;
+
+pub const NAME: Fault = 15;
+
+pub const UNREAD: Fault = 16;
+
+pub const SHAPE: Fault = 17;
+
+pub const COORDINATE: Fault = 18;

@@ -50,6 +50,20 @@ pub fn word_end(line: &[u8], at: usize) -> usize
     find(line, at, true)
 }
 
+// The place after the last byte from `at` on that is no blank, else `at`.
+pub fn last_end(line: &[u8], at: usize) -> usize
+    ensures { λ r. ⌜ at ≤ r ⌝ ∗ ⌜ r ≤ max at (length (now (line .entry))) ⌝ }
+{
+    let mut e = line.len();
+    while at < e {
+        if !blank(line[e - 1]) {
+            return e;
+        }
+        e -= 1;
+    }
+    at
+}
+
 // Where a comment begins from place `from` on and before place `to`, else `to`.
 pub fn comment(text: &[u8], from: usize, to: usize) -> usize
     requires { ⌜ from ≤ to ⌝ ∗ ⌜ to ≤ length (now text) ⌝ }

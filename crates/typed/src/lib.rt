@@ -48,7 +48,7 @@ fn put_fault(out: &mut [u8], at: usize, f: Fault) -> usize
     put_line(
         out,
         at,
-        b"a line begins with strip, piece or mm
+        b"a line begins with strip, piece, path or mm
 a number is expected
 a number is at most 65535 units
 one to three digits follow a point
@@ -63,6 +63,10 @@ a job has at most 200 pieces
 a text has at most 65535 lines
 there is no strip
 a text has at most 262144 bytes
+a path has a mask and the name of a file
+the file of the path cannot be read or is empty
+the path is not one move, 2 to 63 lines and one close
+a coordinate of the path is not a multiple of 0.125 mm from 0 to 2000 mm
 ",
         f as usize,
     )

@@ -1,6 +1,6 @@
 // The calls as C functions: an answer of several numbers in one of 64 bits.
 
-ghost use Rattle.packing.specs.Steps.{OpenPacked, CoverPacked, PlacePacked, AskPacked, CommitPacked, ReadPacked, WritePacked, LayPacked, RetracePacked, OpenBytesPacked, PlaceBytesPacked, AskBytesPacked, CommitBytesPacked, LayBytesPacked};
+ghost use Rattle.packing.specs.Steps.{OpenPacked, CoverPacked, PlacePacked, AskPacked, CommitPacked, ReadPacked, WritePacked, LayPacked, RetracePacked, PathReadPacked, PathWritePacked, OpenBytesPacked, PlaceBytesPacked, AskBytesPacked, CommitBytesPacked, LayBytesPacked};
 use defs::Position;
 
 // The open call.
@@ -115,6 +115,24 @@ pub extern "C" fn vikelodu_retrace(outline: &[u16]) -> u64
 {
     let a = retrace::retrace(outline);
     packing::pack_retracing(a)
+}
+
+// The call that reads a path: the outline's words in the high 32 bits.
+#[no_mangle]
+pub extern "C" fn vikelodu_read_path(path: &[u8], output: &mut [u16]) -> u64
+    ensures { λ r. ⌜ PathReadPacked (now (path .entry)) (now (output .entry)) r (now (output .exit)) ⌝ }
+{
+    let a = readpath::read_path(path, output);
+    packing::pack_path_reading(a)
+}
+
+// The call that writes a path: its bytes in the high 32 bits.
+#[no_mangle]
+pub extern "C" fn vikelodu_write_path(outline: &[u16], output: &mut [u8]) -> u64
+    ensures { λ r. ⌜ PathWritePacked (now (outline .entry)) (now (output .entry)) r (now (output .exit)) ⌝ }
+{
+    let a = writepath::write_path(outline, output);
+    packing::pack_writing(a)
 }
 
 // The open call on a strip passed as bytes.

@@ -76,6 +76,18 @@ mod exported {
             work_words: usize,
         ) -> u64;
         pub fn vikelodu_retrace(outline: *const u16, outline_words: usize) -> u64;
+        pub fn vikelodu_read_path(
+            path: *const u8,
+            path_bytes: usize,
+            output: *mut u16,
+            output_words: usize,
+        ) -> u64;
+        pub fn vikelodu_write_path(
+            outline: *const u16,
+            outline_words: usize,
+            output: *mut u8,
+            output_bytes: usize,
+        ) -> u64;
         pub fn vikelodu_open_bytes(
             width: u16,
             resolution: u16,
@@ -161,6 +173,13 @@ fn placed(answer: u64) -> Result<Position, Refusal> {
     })
 }
 
+/// Of the calls with one value: cover, write, read_path and write_path.
+fn wide(answer: u64) -> Result<u32, Refusal> {
+    let answer = granted(answer)?;
+    assert_eq!(word(answer, 16), 0, "more than the value: {answer:#x}");
+    Ok((answer >> 32) as u32)
+}
+
 /// Of lay.
 fn laid(answer: u64) -> Result<Totals, Refusal> {
     let answer = granted(answer)?;
@@ -240,7 +259,7 @@ pub fn commit(
 
 pub fn cover(outline: &[u16], turn: u16, r: u16, output: &mut [u16]) -> Result<u32, Refusal> {
     // Sound, as above.
-    let answer = unsafe {
+    wide(unsafe {
         exported::vikelodu_cover(
             outline.as_ptr(),
             outline.len(),
@@ -249,10 +268,7 @@ pub fn cover(outline: &[u16], turn: u16, r: u16, output: &mut [u16]) -> Result<u
             output.as_mut_ptr(),
             output.len(),
         )
-    };
-    let answer = granted(answer)?;
-    assert_eq!(word(answer, 16), 0, "more than the runs: {answer:#x}");
-    Ok((answer >> 32) as u32)
+    })
 }
 
 pub fn read(sheet: &[u8], output: &mut [u16]) -> Result<Figures, Refusal> {
@@ -275,7 +291,7 @@ pub fn read(sheet: &[u8], output: &mut [u16]) -> Result<Figures, Refusal> {
 
 pub fn write(figures: Figures, list: &[u16], output: &mut [u8]) -> Result<u32, Refusal> {
     // Sound, as above.
-    let answer = unsafe {
+    wide(unsafe {
         exported::vikelodu_write(
             figures.width,
             figures.resolution,
@@ -285,10 +301,7 @@ pub fn write(figures: Figures, list: &[u16], output: &mut [u8]) -> Result<u32, R
             output.as_mut_ptr(),
             output.len(),
         )
-    };
-    let answer = granted(answer)?;
-    assert_eq!(word(answer, 16), 0, "more than the size: {answer:#x}");
-    Ok((answer >> 32) as u32)
+    })
 }
 
 pub fn lay(
@@ -325,6 +338,25 @@ pub fn retrace(outline: &[u16]) -> Result<Option<EdgePair>, Refusal> {
             Ok(Some((first, second)))
         }
     }
+}
+
+pub fn read_path(path: &[u8], output: &mut [u16]) -> Result<u32, Refusal> {
+    // Sound, as above.
+    wide(unsafe {
+        exported::vikelodu_read_path(path.as_ptr(), path.len(), output.as_mut_ptr(), output.len())
+    })
+}
+
+pub fn write_path(outline: &[u16], output: &mut [u8]) -> Result<u32, Refusal> {
+    // Sound, as above.
+    wide(unsafe {
+        exported::vikelodu_write_path(
+            outline.as_ptr(),
+            outline.len(),
+            output.as_mut_ptr(),
+            output.len(),
+        )
+    })
 }
 
 pub fn open_bytes(w: u16, r: u16, n: u16, strip: &mut [u8]) -> Result<(), Refusal> {

@@ -13,6 +13,7 @@ pub mod guard;
 #[allow(unsafe_code)]
 mod inner;
 pub mod plain;
+pub mod plain_path;
 pub mod plain_place;
 pub mod plain_sheet;
 pub mod plain_strip;
@@ -20,4 +21,5 @@ pub mod programs;
 
 pub use calls::{ask, commit, cover, lay, open, place, read, retrace, write};
 pub use calls::{ask_bytes, commit_bytes, lay_bytes, open_bytes, place_bytes};
+pub use calls::{read_path, write_path};
 pub use inner::{decoded, rewrite, well_formed};

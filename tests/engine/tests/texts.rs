@@ -3,15 +3,17 @@
 
 use engine::programs::{Printed, SHEET, SHOW};
 use reference::generate::{
-    any_job, damaged_sheet, damaged_text, job, small_figures, sound_sheet, stroke_pieces,
-    text_at_limit, text_of_job, Job, Random, SheetDamage, TextDamage,
+    any_job, damaged_path, damaged_sheet, damaged_text, job, small_figures, sound_path,
+    sound_sheet, stroke_pieces, text_at_limit, text_of_job, CoordinateDamage, Job, PathDamage,
+    Random, ShapeDamage, SheetDamage, TextDamage,
 };
 use reference::text::{notes_on_text, sheet_of_text, text_of_sheet};
 use std::collections::BTreeMap;
+use std::path::PathBuf;
 
 /// The messages of program `sheet` about a text, and its refusals of a job.
 const MESSAGES: [&str; 23] = [
-    "a line begins with strip, piece or mm",
+    "a line begins with strip, piece, path or mm",
     "a number is expected",
     "a number is at most 65535 units",
     "one to three digits follow a point",
@@ -34,6 +36,14 @@ const MESSAGES: [&str; 23] = [
     "job refused 9",
     "job refused 10",
     "job refused 11",
+];
+
+/// Those about a path in a file.
+const PATH_MESSAGES: [&str; 4] = [
+    "a path has a mask and the name of a file",
+    "the file of the path cannot be read or is empty",
+    "the path is not one move, 2 to 63 lines and one close",
+    "a coordinate of the path is not a multiple of 0.125 mm from 0 to 2000 mm",
 ];
 
 /// How many texts were accepted, how many of them with a note, and how many had each
@@ -71,6 +81,7 @@ fn kind(message: &str) -> &'static str {
     let is = |kind: &&&str| message.contains(**kind);
     MESSAGES
         .iter()
+        .chain(&PATH_MESSAGES)
         .find(is)
         .unwrap_or_else(|| panic!("{message}"))
 }
@@ -157,6 +168,95 @@ fn any_texts() {
     for message in MESSAGES {
         let count = kinds.messages.get(message).copied().unwrap_or(0);
         assert!(count >= 3, "{message}: {count}");
+    }
+}
+
+/// A folder with paths in files: sound and damaged ones, an empty one, a long one and a
+/// folder; one has a name with blanks, and one is not there.
+struct Paths {
+    folder: PathBuf,
+    names: Vec<String>,
+}
+
+impl Paths {
+    fn new(random: &mut Random) -> Paths {
+        let folder = std::env::temp_dir().join(format!("paths-{}", std::process::id()));
+        std::fs::create_dir(&folder).expect("a new folder");
+        let mut paths = Paths {
+            folder,
+            names: vec!["missing".to_string(), ".".to_string()],
+        };
+        paths.add("empty", &[]);
+        paths.add("with blanks  in it", &sound_path(random));
+        paths.add("long", &vec![2; 100_000]);
+        for place in 0..30 {
+            paths.add(&format!("sound-{place}"), &sound_path(random));
+        }
+        for (place, &damage) in ShapeDamage::ALL.iter().enumerate() {
+            let damaged = damaged_path(random, PathDamage::Shape(damage));
+            paths.add(&format!("shape-{place}"), &damaged.bytes);
+        }
+        for (place, &damage) in CoordinateDamage::ALL.iter().enumerate() {
+            let damaged = damaged_path(random, PathDamage::Coordinate(damage));
+            paths.add(&format!("coordinate-{place}"), &damaged.bytes);
+        }
+        paths
+    }
+
+    fn add(&mut self, name: &str, bytes: &[u8]) {
+        std::fs::write(self.folder.join(name), bytes).expect("written");
+        self.names.push(name.to_string());
+    }
+
+    /// The end of a line that names one of them.
+    fn named(&self, random: &mut Random) -> String {
+        let name = &self.names[random.index(self.names.len())];
+        let end = random.pick(&["", " ", " \t\r", " # wallet"]);
+        format!("{}{end}", self.folder.join(name).display())
+    }
+}
+
+impl Drop for Paths {
+    fn drop(&mut self) {
+        std::fs::remove_dir_all(&self.folder).ok();
+    }
+}
+
+/// Pieces by their vertices and by the names of files.
+#[test]
+fn paths_in_files() {
+    let mut kinds = Kinds::default();
+    let mut random = Random::new(206);
+    let paths = Paths::new(&mut random);
+    for _ in 0..600 {
+        let mut text = "strip 16000 400 4096\n".to_string();
+        for _ in 0..random.between(1, 3) {
+            let name = paths.named(&mut random);
+            text += &match random.index(12) {
+                0 => format!("path {name}\n"),
+                1 => "path 15 \n".to_string(),
+                2 => format!("path 16 {name}\n"),
+                3 => format!("path 15 {name}\0\n"),
+                4 => "piece 1 0,0 4,0 4,4\n".to_string(),
+                _ => format!(" path\t15  {name}\n"),
+            };
+        }
+        kinds.run(text.as_bytes());
+    }
+    let long = "x".repeat(5_000);
+    for text in [
+        "path 1 a",
+        "strip 10 2 10\npath",
+        "strip 10 2 10\npath 1 # a",
+    ] {
+        kinds.run(text.as_bytes());
+    }
+    kinds.run(format!("strip 10 2 10\npath 1 {long}").as_bytes());
+    println!("{} accepted, {:?}", kinds.accepted, kinds.messages);
+    assert!(kinds.accepted >= 20);
+    for message in PATH_MESSAGES {
+        let count = kinds.messages.get(message).copied().unwrap_or(0);
+        assert!(count >= 20, "{message}: {count}");
     }
 }
 

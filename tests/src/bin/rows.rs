@@ -6,15 +6,16 @@
 //!
 //! Inputs are kept small, since the definitions try every cell and position.
 
+use reference::generate::paths::{any_vertices, sound_path_of};
 use reference::generate::{
-    any_mask, any_turn, change_words, commit_position, damaged_list, damaged_sheet, damaged_strip,
-    job, outline, random_runs, small_figures, sound_list, sound_outline, sound_pieces, sound_sheet,
-    sound_strip, strip_with, stroke_outline, CommitKind, Damage, Job, ListDamage, OutlineKind,
-    Random, SheetDamage, StripFigures, StrokeKind,
+    any_mask, any_path, any_turn, change_words, commit_position, damaged_list, damaged_sheet,
+    damaged_strip, job, outline, random_runs, small_figures, sound_list, sound_outline,
+    sound_pieces, sound_sheet, sound_strip, strip_with, stroke_outline, CommitKind, Damage, Job,
+    ListDamage, OutlineKind, Random, SheetDamage, StripFigures, StrokeKind,
 };
 use reference::sheet::list_words;
 use reference::{ask, commit, cover, lay, lay_text, open, place, read, retrace, write};
-use reference::{strip_runs, well_formed};
+use reference::{read_path, strip_runs, well_formed, write_path};
 use reference::{Figures, Position, Refusal};
 use std::cmp::Ordering;
 
@@ -45,6 +46,9 @@ use Rattle.defs.specs.Computing.Lay.{layAnswer, layOutput}
 use Rattle.defs.specs.Computing.Ascii.{ascii}
 use Rattle.defs.specs.Computing.Text.{layText}
 use Rattle.defs.specs.Computing.Runs.{runs}
+use Rattle.pathdefs.specs.declared.PathReading.the-variants.{Words, Refused as NotPath}
+use Rattle.pathdefs.specs.Computing.PathRuns.{pathRuns}
+use Rattle.pathdefs.specs.Computing.Paths.{readPathAnswer, readPathOutput, writePathAnswer, writePathOutput}
 use Rattle.strokes.specs.Retrace.{riseAlike, level, runAlong, standAlong, sharesb, sharedAfter, firstPair, retraceAnswer}
 
 infixl 90 _to_
@@ -489,6 +493,66 @@ fn retrace_row(random: &mut Random, table: &mut Table) {
     );
 }
 
+/// A path of few steps, or of many.
+fn read_path_row(random: &mut Random, table: &mut Table) {
+    let path = loop {
+        let path = match random.index(6) {
+            0 => sound_path_of(random, 64),
+            _ => any_path(random),
+        };
+        if path.len() <= 100 || random.once_in(8) {
+            break path;
+        }
+    };
+    let room = random.pick(&[0, 5, 6, 9, 128, 130]);
+    let mut output = vec![9u16; room];
+    let before = numbers(&output);
+    let answer = match read_path(&path, &mut output) {
+        Ok(words) => format!("Words {words}"),
+        Err(refusal) => refused("NotPath", refusal),
+    };
+    let path = numbers(&path);
+    table.row_of(
+        "pathRuns",
+        &format!("readPathAnswer {path} {room}"),
+        &answer,
+    );
+    table.row_of(
+        "pathRuns",
+        &format!("readPathOutput {path} {before} ({answer})"),
+        &numbers(&output),
+    );
+}
+
+fn write_path_row(random: &mut Random, table: &mut Table) {
+    let words = match random.index(3) {
+        0 => small_outline(random),
+        _ => {
+            let vertices = random.pick(&[3, 3, 4, 5, 9, 64]);
+            any_vertices(random, vertices)
+        }
+    };
+    let size = 9 * words.len() / 2 + 1;
+    let room = random.pick(&[size, size, size - 1, size + 7, 0]);
+    let mut output = vec![9u8; room];
+    let before = numbers(&output);
+    let answer = match write_path(&words, &mut output) {
+        Ok(bytes) => format!("Written {bytes}"),
+        Err(refusal) => refused("NotWritten", refusal),
+    };
+    let words = numbers(&words);
+    table.row_of(
+        "pathRuns",
+        &format!("writePathAnswer {words} {room}"),
+        &answer,
+    );
+    table.row_of(
+        "pathRuns",
+        &format!("writePathOutput {words} {before} ({answer})"),
+        &numbers(&output),
+    );
+}
+
 fn main() {
     let mut arguments = std::env::args()
         .skip(1)
@@ -514,6 +578,9 @@ fn main() {
         lay_row(&mut random, &mut table);
         retrace_row(&mut random, &mut table);
         retrace_row(&mut random, &mut table);
+        read_path_row(&mut random, &mut table);
+        read_path_row(&mut random, &mut table);
+        write_path_row(&mut random, &mut table);
     }
     eprintln!("{} rows from seed {seed}", table.rows);
 }

@@ -6,6 +6,7 @@ pub mod calls;
 pub mod jobs;
 pub mod lists;
 pub mod outlines;
+pub mod paths;
 pub mod random;
 pub mod sheets;
 pub mod strips;
@@ -16,6 +17,7 @@ pub use calls::{commit_position, place_calls, Call, CommitCall, CommitKind, Mixe
 pub use jobs::{job, sound_piece_of, sound_pieces, sound_pieces_of, Job};
 pub use lists::{damaged_list, damaged_list_at, sound_list, DamagedList, ListDamage};
 pub use outlines::{any_outline, any_size, outline, sound_outline, OutlineKind};
+pub use paths::{any_path, damaged_path, sound_path, CoordinateDamage, PathDamage, ShapeDamage};
 pub use random::Random;
 pub use sheets::{
     damaged_sheet, damaged_sheet_at, round_of_pieces, round_of_vertices, sound_sheet, DamagedSheet,

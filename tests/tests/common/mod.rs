@@ -285,9 +285,33 @@ pub fn check_write(
     list: &[u16],
     length: usize,
 ) -> Result<Vec<u8>, Refusal> {
-    let before = other_bytes(length);
+    written(other_bytes(length), |output| {
+        reference::write(w, r, n, list, output)
+    })
+}
+
+/// Read a path with an output of this length; the outline.
+pub fn check_read_path(path: &[u8], length: usize) -> Result<Vec<u16>, Refusal> {
+    written(other_words(length), |output| {
+        reference::read_path(path, output)
+    })
+}
+
+/// Write a path with an output of this length; the path.
+pub fn check_write_path(outline: &[u16], length: usize) -> Result<Vec<u8>, Refusal> {
+    written(other_bytes(length), |output| {
+        reference::write_path(outline, output)
+    })
+}
+
+/// What a call that answers its size has written; the rest of the output, or at a
+/// refusal all of it, is kept.
+fn written<T: Clone + PartialEq + std::fmt::Debug>(
+    before: Vec<T>,
+    call: impl FnOnce(&mut [T]) -> Result<u32, Refusal>,
+) -> Result<Vec<T>, Refusal> {
     let mut output = before.clone();
-    match reference::write(w, r, n, list, &mut output) {
+    match call(&mut output) {
         Ok(size) => {
             let size = size as usize;
             assert_eq!(output[size..], before[size..], "the rest is kept");

@@ -4,11 +4,11 @@ use borrow.Author.Needs.{needs}
 use Rattle.lines.proofs.outline_line.Statement.{statement}
 use Rattle.lines.proofs.outline_line.Tie as tie
 
-add-vertices : tie.Need-add-vertices
-add-vertices c = search needs
+add-piece-vertices : tie.Need-add-piece-vertices
+add-piece-vertices c = search needs
 
-vertices-requires : tie.Need-vertices-requires
-vertices-requires c κs = search needs
+piece-vertices-requires : tie.Need-piece-vertices-requires
+piece-vertices-requires c κs = search needs
 
 enum-known-n : tie.Need-enum-known-n
 enum-known-n c = search needs
@@ -16,7 +16,7 @@ enum-known-n c = search needs
 add-piece-requires : tie.Need-add-piece-requires
 add-piece-requires c κs = (
   omega (arith, c .before .before .before .before .before .list .given, c .before .before .before .before .before .before .before .before .before .before .before .pre .0),
-  (c .before .before .before .before .before .before .before .before .before .before .before .pre .1, rw (c .before .before .n .given .1) at (c .before .before .before .before .before .before .vertices .ensures)),
+  (c .before .before .before .before .before .before .before .before .before .before .before .pre .1, rw (c .before .before .n .given .1) at (c .before .before .before .before .before .before .piece-vertices .ensures)),
 )
 
 enum-known-f : tie.Need-enum-known-f
@@ -38,8 +38,8 @@ pub outline-line-spec : {M : Type 1} → statement M
 outline-line-spec =
     tie.close
     (tie.spec
-    add-vertices
-    vertices-requires
+    add-piece-vertices
+    piece-vertices-requires
     enum-known-n
     add-piece-requires
     enum-known-f

@@ -1,15 +1,17 @@
-//! So many calls of open, place, ask, commit and lay over C, one after another, on good
-//! and bad input, against the reference program: each answer and each word of every
-//! buffer, which stands between two pages that cannot be read, now at one, now at the
-//! other. One call in three is made on bytes, which stand at odd addresses too.
+//! So many calls of open, place, ask, commit, lay, read_path and write_path over C, one
+//! after another, on good and bad input, against the reference program: each answer and
+//! each word of every buffer, which stands between two pages that cannot be read, now at
+//! one, now at the other. One call in three of those on words is made on bytes, which
+//! stand at odd addresses too, as paths do.
 //!
 //! soak [CALLS [SEED]]
 
 use engine::guard::{End, Room, Unit};
 use reference::figures::NUMBERS;
 use reference::generate::{
-    any_figures, change_words, damaged_sheet, damaged_strip, job, small_figures, sound_sheet,
-    sound_strip, Call, CommitCall, Damage, MixedList, PlaceCall, Random, SheetDamage,
+    any_figures, any_outline, any_path, change_words, damaged_sheet, damaged_strip, job,
+    small_figures, sound_sheet, sound_strip, Call, CommitCall, Damage, MixedList, PlaceCall,
+    Random, SheetDamage,
 };
 use reference::{bytes, Figures, Position, Refusal, Totals};
 use std::fmt::Debug;
@@ -176,12 +178,33 @@ impl<T: Unit> Rooms<T> {
     }
 }
 
+/// A call that reads one buffer and writes another, in a room for each.
+fn between<T: Unit, U: Unit>(
+    [ours, theirs]: [fn(&[T], &mut [U]) -> Result<u32, Refusal>; 2],
+    [end, output_end]: [End; 2],
+    (room, output_room): (&mut Room<T>, &mut Room<U>),
+    input: &[T],
+    output: &mut [U],
+) -> Result<u32, Refusal> {
+    let lent = room.lend_at(end, input);
+    let lent_output = output_room.lend_at(output_end, output);
+    let answer = theirs(input, output);
+    assert_eq!(ours(lent, lent_output), answer, "{input:?}");
+    assert!(*lent == *input, "input: {input:?}");
+    assert!(*lent_output == *output, "output: {input:?}");
+    let kept = room.kept_at(end, input.len()) && output_room.kept_at(output_end, output.len());
+    assert!(kept, "beside a buffer: {input:?}");
+    answer
+}
+
 struct Soak {
     random: Random,
     words: Rooms<u16>,
     bytes: Rooms<u8>,
     /// On words, and on bytes.
     kinds: [[Kind; 5]; 2],
+    /// Read and written.
+    paths: [Kind; 2],
     /// Pieces of laid jobs, by fate; 0 is placed.
     fates: [u64; 16],
 }
@@ -228,6 +251,7 @@ impl Soak {
             words: Rooms::new(1),
             bytes: Rooms::new(2),
             kinds: [names, on_bytes].map(|names| names.map(Kind::new)),
+            paths: ["read_path", "write_path"].map(Kind::new),
             fates: [0; 16],
         }
     }
@@ -420,8 +444,44 @@ impl Soak {
         self.lay(&sheet, strip, output);
     }
 
+    /// A path read to an output of any length; its outline, or any, written.
+    fn any_path(&mut self) {
+        let path = any_path(&mut self.random);
+        let words = self.random.pick(&[0, 6, 20, 128, 128, 140]);
+        let mut outline = any_words(&mut self.random, words);
+        let outline = match self.read_path(&path, &mut outline) {
+            Ok(words) => outline[..words as usize].to_vec(),
+            Err(_) => any_outline(&mut self.random),
+        };
+        let right = 9 * outline.len() / 2 + 1;
+        let bytes = self.random.pick(&[right, right, right - 1, 0, 600]);
+        self.write_path(&outline, bytes);
+    }
+
+    fn read_path(&mut self, path: &[u8], output: &mut [u16]) -> Result<u32, Refusal> {
+        let ends = [(); 2].map(|()| self.random.pick(&End::ALL));
+        let (input, written) = (&mut self.bytes.sheet, &mut self.words.output);
+        let calls = [engine::read_path, reference::read_path];
+        let answer = between(calls, ends, (input, written), path, output);
+        self.paths[0].count(&answer);
+        answer
+    }
+
+    fn write_path(&mut self, outline: &[u16], bytes: usize) {
+        let mut output = vec![self.random.word(0, 255) as u8; bytes];
+        let ends = [(); 2].map(|()| self.random.pick(&End::ALL));
+        let (input, written) = (&mut self.words.outline, &mut self.bytes.output);
+        let calls = [engine::write_path, reference::write_path];
+        let answer = between(calls, ends, (input, written), outline, &mut output);
+        self.paths[1].count(&answer);
+    }
+
+    fn all_kinds(&self) -> impl Iterator<Item = &Kind> {
+        self.kinds.iter().flatten().chain(&self.paths)
+    }
+
     fn calls(&self) -> u64 {
-        self.kinds.iter().flatten().map(|kind| kind.calls).sum()
+        self.all_kinds().map(|kind| kind.calls).sum()
     }
 }
 
@@ -435,15 +495,16 @@ fn main() {
     let (calls, seed) = (next(1_000_000), next(1));
     let mut soak = Soak::new(seed);
     while soak.calls() < calls {
-        match soak.random.index(8) {
+        match soak.random.index(9) {
             0 => soak.any_open(),
             1 | 2 => soak.any_strip(),
             3 => soak.list(),
+            4 => soak.any_path(),
             _ => soak.any_job(),
         }
     }
     println!("{} calls, seed {seed}, no difference", soak.calls());
-    for kind in soak.kinds.iter().flatten() {
+    for kind in soak.all_kinds() {
         let came: Vec<String> = (0..NUMBERS)
             .filter(|&number| kind.numbers[number] > 0)
             .map(|number| format!("{number}: {}", kind.numbers[number]))
@@ -486,5 +547,14 @@ fn main() {
             }
         }
         assert_eq!((ask.numbers[18], commit.numbers[13]), (0, 0));
+    }
+    // Nor one that never meets a path that is granted, or one of the refusals.
+    let numbers = [&[0, 15, 19, 20], &[0, 7, 8, 15]];
+    for (kind, numbers) in soak.paths.iter().zip(numbers) {
+        for &number in numbers {
+            let times = kind.numbers[number];
+            let rarest = calls / 2_000;
+            assert!(times >= rarest, "{} has {number} {times} times", kind.name);
+        }
     }
 }

@@ -1,0 +1,4 @@
+pub mod Back
+pub mod OnlyPath
+pub mod Numbers
+pub mod Paths
