@@ -3,10 +3,10 @@
  *
  * A strip is opened once and then takes one piece after another. Each piece goes to the free position that ends in the least
  * column, then lowest, then in the least turn; a program may also see that position before the piece is laid, and lay the piece
- * there or at another free position. A job sheet carries the figures of a strip and a cut list of pieces as bytes; a list is read
- * from it and written to it, and a whole job is laid from it in one call. An outline is also read from a path of a drawing program
- * and written as one. Every call answers one number of 64 bits and says in it what became of the call: granted, or refused with the
- * number of the question that got "no".
+ * there or at another free position. A strip may have a gap, which is kept between its pieces. A job sheet carries the figures of a
+ * strip and a cut list of pieces as bytes; a list is read from it and written to it, and a whole job is laid from it in one call. An
+ * outline is also read from a path of a drawing program and written as one. Every call answers one number of 64 bits and says in it
+ * what became of the call: granted, or refused with the number of the question that got "no".
  *
  * Words and buffers
  *
@@ -28,10 +28,16 @@
  * One unit is 1/8 mm. The strip is `width` units high and runs to the right in columns of `resolution` units. Cells are a column
  * wide and one unit high. A run is a stretch of cells in one column, from row `low` to row `high` - 1.
  *
+ * A strip is opened with a gap g of 0 to 400 units and keeps it. Two points inside different pieces on it then differ by at least g
+ * in x or in y. There is no gap to the strip's edges: whether a piece is on the strip is a matter of its outline alone. For the gap a
+ * piece's cells reach g units to the right and g units up: each square of one unit by one that holds a point inside the piece counts
+ * also where it is moved by up to g units to the right and up to g units up, and the cells are those that such a square lies in. Cells
+ * past the strip's end or top do not count. With a gap of 0 the cells are those that hold a point inside.
+ *
  * Refusals
  *
  * The questions of a call are asked in rising order, those of a piece (7 to 11) piece by piece, and the first "no" is the answer;
- * but 16 and 17 are asked directly after 3, or where 3 would be, vikelodu_commit asks 18 after 12 and before 14,
+ * but 16 and 17, and after them 21, are asked directly after 3, or where 3 would be, vikelodu_commit asks 18 after 12 and before 14,
  * vikelodu_read_path asks 15 after 19 and 20, and vikelodu_write asks for the sheet's size (2) after its pieces. A refused call
  * changes no word of the strip and no word or byte of the output; the work buffer is zero after every call, granted or refused.
  * What is lent as const is never changed. In vikelodu_lay 12 to 14 refuse one piece and not the job: they are in the output and
@@ -42,6 +48,19 @@
 
 #include <stddef.h>
 #include <stdint.h>
+
+/*
+ * The edition of this header. A call whose arguments have changed has another name in the library, so that a program compiled against
+ * an older header does not link; compiled against this one it calls it by the name it had. Edition 4 has the gap as an argument more
+ * in these five. The calls that place, ask and commit have kept their names: a strip of the older form, with four leading words, has
+ * another length than one of this form with as many columns, for any number of records, and gets 5.
+ */
+#define VIKELODU_EDITION 4
+#define vikelodu_open vikelodu_open_4
+#define vikelodu_cover vikelodu_cover_4
+#define vikelodu_lay vikelodu_lay_4
+#define vikelodu_open_bytes vikelodu_open_bytes_4
+#define vikelodu_lay_bytes vikelodu_lay_bytes_4
 
 #ifdef __cplusplus
 extern "C" {
@@ -57,10 +76,11 @@ enum vikelodu_number {
     VIKELODU_SHEET_LENGTH = 2,
     /* The width is not 1 to 16,000 units. Answered by vikelodu_open, vikelodu_read, vikelodu_write and vikelodu_lay. */
     VIKELODU_WIDTH = 3,
-    /* The strip has not 4 + columns + 4 * records words for any number of records from 1 to 16,000. */
+    /* The strip has not 5 + columns + 4 * records words for any number of records from 1 to 16,000. Answered by vikelodu_open and
+       vikelodu_lay. */
     VIKELODU_STRIP_LENGTH = 4,
-    /* The strip is not well formed: it was not opened, it has another length than it was opened with, or its words were
-       changed so that they are no strip any more. */
+    /* The strip is not well formed: it was not opened, or not by a library of this edition; it has another length than it was
+       opened with; or its words were changed so that they are no strip any more, the gap to over 400 too. */
     VIKELODU_ILL_FORMED = 5,
     /* The sheet's piece chain leaves 1 to P or does not end within 200 pieces; the list has no count word, or one above 200. */
     VIKELODU_PIECES = 6,
@@ -75,7 +95,8 @@ enum vikelodu_number {
     VIKELODU_CROSSING = 10,
     /* The outline has nothing inside, so it covers no cell. */
     VIKELODU_NO_CELL = 11,
-    /* The work buffer, or cover's output, has not three words for each run of the allowed turn that has most runs. */
+    /* The work buffer, or cover's output, has not three words for each run of the allowed turn that has most runs. The runs are
+       those that vikelodu_cover gives with this gap: none is left out because it would go past the strip. */
     VIKELODU_BUFFER = 12,
     /* There is no free position in any allowed turn. Never answered by vikelodu_commit. */
     VIKELODU_NO_POSITION = 13,
@@ -95,11 +116,15 @@ enum vikelodu_number {
     VIKELODU_PATH_SHAPE = 19,
     /* Eight times a coordinate of the path, in millimetres, is not a whole number from 0 to 16,000. Answered by vikelodu_read_path
        alone, of a path that has the right shape. */
-    VIKELODU_PATH_COORDINATE = 20
+    VIKELODU_PATH_COORDINATE = 20,
+    /* The gap is over 400 units. Asked directly after 16 and 17, by vikelodu_open, vikelodu_cover (which does not ask 17) and
+       vikelodu_lay. */
+    VIKELODU_GAP = 21
 };
 
-/* The words of a strip. A record holds one run; what the pieces need depends on their form and on how their runs join. */
-#define VIKELODU_STRIP_WORDS(columns, records) (4 + (size_t)(columns) + 4 * (size_t)(records))
+/* The words of a strip: five leading words, one for each column, four for each record. A record holds one run; what the pieces need
+   depends on their form and on how their runs join. */
+#define VIKELODU_STRIP_WORDS(columns, records) (5 + (size_t)(columns) + 4 * (size_t)(records))
 
 /* The bytes of the sheet that vikelodu_write makes of a list with so many vertices and pieces in all; of the longest sheet. */
 #define VIKELODU_SHEET_BYTES(vertices, pieces) (16 + 6 * ((size_t)(vertices) + (size_t)(pieces)))
@@ -125,17 +150,22 @@ enum vikelodu_number {
  *
  *   width, resolution   in units, 1 to 16,000 and 1 to 400
  *   columns             1 to 4,096
+ *   gap                 in units, 0 to 400; 0 is no gap
  *   strip               VIKELODU_STRIP_WORDS(columns, records) words for some 1 to 16,000 records; what they hold is not looked
  *                       at
  *
- * Refused with 3, 16, 17 or 4, ordinal 0. Granted, the answer is 0.
+ * Refused with 3, 16, 17, 21 or 4, ordinal 0. Granted, the answer is 0. Board 1 m wide in 400 columns of 5 mm, with 3 mm between
+ * pieces, which are 24 units:
  *
- * The strip is then: width, resolution, columns, the number of the first free record; for each column the number of its first
+ *   uint64_t answer = vikelodu_open(8000, 40, 400, 3 * 8, strip, strip_words);
+ *
+ * The strip is then: width, resolution, columns, the number of the first free record, gap; for each column the number of its first
  * record; and the records from 1 on, each of four words: column, low, high, and the number of the next record, 0 after the last.
  * The records of a column are chained in rising order and do not touch. A free record has `columns` for its column, and low and
- * high 0. A program may read this; which record holds which run is not promised.
+ * high 0. A program may read this; which record holds which run is not promised. The runs are those of the pieces' cells, with the
+ * gap. vikelodu_place, vikelodu_ask and vikelodu_commit take the gap from the strip.
  */
-uint64_t vikelodu_open(uint16_t width, uint16_t resolution, uint16_t columns, uint16_t *strip, size_t strip_words);
+uint64_t vikelodu_open(uint16_t width, uint16_t resolution, uint16_t columns, uint16_t gap, uint16_t *strip, size_t strip_words);
 
 /*
  * Lays one piece: finds the best free position in the allowed turns and enters the piece's cells there.
@@ -152,8 +182,8 @@ uint64_t vikelodu_open(uint16_t width, uint16_t resolution, uint16_t columns, ui
  * Refused with 5, ordinal 0, or with 7 to 14, ordinal 1. Granted, the answer has the turn, the column and the height: the turned
  * outline lies column * resolution units to the right and height units up.
  *
- * Where the size of the work buffer is not known, lend what can be spared; 9,000 words are enough for 3,000 runs. A piece has no
- * more than 32 runs in each unit of its width.
+ * Where the size of the work buffer is not known, lend what can be spared; 9,000 words are enough for 3,000 runs. On a strip with no
+ * gap a piece has no more than 32 runs in each unit of its width; with a gap it has runs in the columns that the gap reaches, too.
  */
 uint64_t vikelodu_place(uint16_t *strip, size_t strip_words, const uint16_t *outline, size_t outline_words, uint16_t mask,
                         uint16_t *work, size_t work_words);
@@ -193,7 +223,8 @@ uint64_t vikelodu_ask(const uint16_t *strip, size_t strip_words, const uint16_t 
  * At the spot that vikelodu_ask has answered, with the same outline and nothing written to the strip between the two calls, it is
  * granted; only a work buffer shorter than that of vikelodu_ask may get 12. The piece then lies where vikelodu_place would have laid
  * it, and the strip has the same runs. Where a piece was laid between them the spot may get 18, or 14 for want of records. On a strip
- * that only these calls have written since it was opened, no point is ever inside two pieces.
+ * that only these calls have written since it was opened, no point is ever inside two pieces, and two points inside different pieces
+ * differ by at least the gap in x or in y.
  */
 uint64_t vikelodu_commit(uint16_t *strip, size_t strip_words, const uint16_t *outline, size_t outline_words, uint16_t turn,
                          uint16_t column, uint16_t height, uint16_t *work, size_t work_words);
@@ -204,12 +235,15 @@ uint64_t vikelodu_commit(uint16_t *strip, size_t strip_words, const uint16_t *ou
  *   outline      as in vikelodu_place
  *   turn         0 to 3
  *   resolution   1 to 400
+ *   gap          in units, 0 to 400, for which the cells reach further to the right and up; 0 for those that hold a point inside
  *   output       three words for each run: column, low, high, by column and then low; words after the last run stay
  *
- * Refused with 16, ordinal 0, or with 7 to 12, ordinal 1. Granted, the answer has the number of runs.
+ * There is no strip here, so nothing is cut off: columns and rows go up to 16,400.
+ *
+ * Refused with 16 or 21, ordinal 0, or with 7 to 12, ordinal 1. Granted, the answer has the number of runs.
  */
-uint64_t vikelodu_cover(const uint16_t *outline, size_t outline_words, uint16_t turn, uint16_t resolution, uint16_t *output,
-                        size_t output_words);
+uint64_t vikelodu_cover(const uint16_t *outline, size_t outline_words, uint16_t turn, uint16_t resolution, uint16_t gap,
+                        uint16_t *output, size_t output_words);
 
 /*
  * Reads a job sheet: width, resolution and columns in the answer, and its cut list as words.
@@ -254,23 +288,24 @@ uint64_t vikelodu_write(uint16_t width, uint16_t resolution, uint16_t columns, c
                         uint8_t *output, size_t output_bytes);
 
 /*
- * Lays a job: opens the strip with the sheet's width, resolution and columns, and places the pieces of the sheet on it in the
- * order of their chain, going on after a piece that is refused.
+ * Lays a job: opens the strip with the sheet's width, resolution and columns and the gap, and places the pieces of the sheet on it in
+ * the order of their chain, going on after a piece that is refused.
  *
  *   sheet    any number of bytes, a sheet as in vikelodu_read or not; they are not changed
+ *   gap      as in vikelodu_open; a sheet has no place for one
  *   strip    VIKELODU_STRIP_WORDS(columns, records) words, with the columns that the sheet gives and some 1 to 16,000 records;
  *            what they hold is not looked at
  *   output   at least VIKELODU_LAY_WORDS(pieces) words; what they hold is not looked at, and words after the last piece's stay.
  *            VIKELODU_MOST_LAY_WORDS are always enough
  *   work     as in vikelodu_place, of any number of words, 0 too: a piece for which it is too short is refused with 12
  *
- * Refused with 1, 2, 3, 16, 17, 4 or 6, ordinal 0; with 7 to 11 and the ordinal of the piece in the chain, from 1 on; then with
+ * Refused with 1, 2, 3, 16, 17, 21, 4 or 6, ordinal 0; with 7 to 11 and the ordinal of the piece in the chain, from 1 on; then with
  * 15, ordinal 0. A refused job lays nothing, also where one piece alone is at fault: the strip is not opened, it and the output
  * keep their words, and all words of the work buffer are 0. The columns of a sheet are in its bytes 8 and 9, and vikelodu_read
  * answers them.
  *
  * Granted, the answer has the number of pieces placed and the used columns: one more than the last column of the piece that ends
- * farthest to the right, 0 if none is placed. The output has four words for each piece, in the order of the chain:
+ * farthest to the right, without the gap, 0 if none is placed. The output has four words for each piece, in the order of the chain:
  *
  *   a piece that is placed    0, its turn, its column, its height, as vikelodu_place answers them
  *   a piece that is refused   12, 13 or 14, and three times 0
@@ -278,7 +313,7 @@ uint64_t vikelodu_write(uint16_t width, uint16_t resolution, uint16_t columns, c
  * The strip is well formed and has the runs that vikelodu_open and then vikelodu_place with each of the pieces would have made;
  * vikelodu_place and vikelodu_commit can lay more pieces on it. All words of the work buffer are 0.
  */
-uint64_t vikelodu_lay(const uint8_t *sheet, size_t sheet_bytes, uint16_t *strip, size_t strip_words, uint16_t *output,
+uint64_t vikelodu_lay(const uint8_t *sheet, size_t sheet_bytes, uint16_t gap, uint16_t *strip, size_t strip_words, uint16_t *output,
                       size_t output_words, uint16_t *work, size_t work_words);
 
 /*
@@ -349,25 +384,27 @@ uint64_t vikelodu_write_path(const uint16_t *outline, size_t outline_words, uint
 /*
  * vikelodu_open, vikelodu_place, vikelodu_ask, vikelodu_commit and vikelodu_lay on buffers of bytes: the same answers, and the same
  * words left in each buffer, as of the calls on words that have the buffers' words. A buffer may stand at any address, an odd one
- * too.
+ * too. Of a work buffer at most 1,536,000 words are used: 12 is asked of these, and all of its words are 0 after the call. With no
+ * gap that many are always enough.
  *
  *   uint8_t strip[2 * VIKELODU_STRIP_WORDS(10, 6)];
- *   uint64_t answer = vikelodu_open_bytes(10, 2, 10, strip, sizeof strip);
+ *   uint64_t answer = vikelodu_open_bytes(10, 2, 10, 0, strip, sizeof strip);
  *
  * Strip, outline and output go through copies on the stack; the sheet is read where it lies, and the work buffer is cleared and
  * otherwise not touched. The stack needed is 160 KB in vikelodu_open_bytes; 400 KB in vikelodu_place_bytes, vikelodu_ask_bytes and
  * vikelodu_commit_bytes and 430 KB in vikelodu_lay_bytes where the work buffer has at most 9,000 words, and 3.5 MB where it has
  * more.
  */
-uint64_t vikelodu_open_bytes(uint16_t width, uint16_t resolution, uint16_t columns, uint8_t *strip, size_t strip_bytes);
+uint64_t vikelodu_open_bytes(uint16_t width, uint16_t resolution, uint16_t columns, uint16_t gap, uint8_t *strip,
+                             size_t strip_bytes);
 uint64_t vikelodu_place_bytes(uint8_t *strip, size_t strip_bytes, const uint8_t *outline, size_t outline_bytes, uint16_t mask,
                               uint8_t *work, size_t work_bytes);
 uint64_t vikelodu_ask_bytes(const uint8_t *strip, size_t strip_bytes, const uint8_t *outline, size_t outline_bytes, uint16_t mask,
                             uint8_t *work, size_t work_bytes);
 uint64_t vikelodu_commit_bytes(uint8_t *strip, size_t strip_bytes, const uint8_t *outline, size_t outline_bytes, uint16_t turn,
                                uint16_t column, uint16_t height, uint8_t *work, size_t work_bytes);
-uint64_t vikelodu_lay_bytes(const uint8_t *sheet, size_t sheet_bytes, uint8_t *strip, size_t strip_bytes, uint8_t *output,
-                            size_t output_bytes, uint8_t *work, size_t work_bytes);
+uint64_t vikelodu_lay_bytes(const uint8_t *sheet, size_t sheet_bytes, uint16_t gap, uint8_t *strip, size_t strip_bytes,
+                            uint8_t *output, size_t output_bytes, uint8_t *work, size_t work_bytes);
 
 /* What an answer says. The number is 0 where the call is granted. */
 static inline uint16_t vikelodu_number(uint64_t answer) { return (uint16_t)answer; }

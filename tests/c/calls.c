@@ -35,6 +35,9 @@ struct buffer {
 
 enum { FENCE = 0xBEEF };
 
+/* Where a strip has its gap and its heads. */
+enum { GAP = 4, HEADS = 5 };
+
 static struct buffer make(size_t count) {
     uint16_t *all = malloc(2 * (count + 2));
     if (all == NULL) {
@@ -70,16 +73,21 @@ static void drop(struct buffer of) { free(of.words - 1); }
 
 /* -------------------------------------------------------------------- calls */
 
-/* A strip just opened. */
-static struct buffer opened(uint16_t width, uint16_t resolution, uint16_t columns, size_t records) {
+/* A strip just opened with a gap. */
+static struct buffer opened_with_gap(uint16_t width, uint16_t resolution, uint16_t columns, uint16_t gap, size_t records) {
     struct buffer strip = make(VIKELODU_STRIP_WORDS(columns, records));
-    expect("open", vikelodu_open(width, resolution, columns, strip.words, strip.count), 0);
+    expect("open", vikelodu_open(width, resolution, columns, gap, strip.words, strip.count), 0);
     expect("leading words", strip.words[0] == width && strip.words[1] == resolution && strip.words[2] == columns, 1);
+    expect("the gap", strip.words[GAP], gap);
     for (size_t i = 0; i < columns; i++) {
-        expect("an empty column", strip.words[4 + i], 0);
+        expect("an empty column", strip.words[HEADS + i], 0);
     }
     expect_fences("around an opened strip", strip);
     return strip;
+}
+
+static struct buffer opened(uint16_t width, uint16_t resolution, uint16_t columns, size_t records) {
+    return opened_with_gap(width, resolution, columns, 0, records);
 }
 
 /* What a program wants of a strip for an outline: place or ask with the mask `turns`, or commit in the turn `turns`. */
@@ -153,13 +161,13 @@ static void refused_alike(const char *what, struct buffer strip, const uint16_t 
 
 /* The run of a column that has one; the chains are followed, as the numbers of the records are not promised. */
 static void expect_run(struct buffer strip, size_t column, uint16_t low, uint16_t high) {
-    size_t columns = strip.words[2], first = strip.words[4 + column];
+    size_t columns = strip.words[2], first = strip.words[HEADS + column];
     if (first == 0) {
         printf("column %zu is empty\n", column);
         different = 1;
         return;
     }
-    const uint16_t *record = strip.words + 4 + columns + 4 * (first - 1);
+    const uint16_t *record = strip.words + HEADS + columns + 4 * (first - 1);
     expect("record's column", record[0], column);
     expect("low", record[1], low);
     expect("high", record[2], high);
@@ -169,9 +177,9 @@ static void expect_run(struct buffer strip, size_t column, uint16_t low, uint16_
 /* Two strips of equal length have the same runs, whichever records hold them. */
 static void expect_same_runs(const char *what, struct buffer got, struct buffer wanted) {
     size_t columns = wanted.words[2];
-    const uint16_t *got_records = got.words + 4 + columns, *wanted_records = wanted.words + 4 + columns;
+    const uint16_t *got_records = got.words + HEADS + columns, *wanted_records = wanted.words + HEADS + columns;
     for (size_t column = 0; column < columns; column++) {
-        size_t left = got.words[4 + column], right = wanted.words[4 + column];
+        size_t left = got.words[HEADS + column], right = wanted.words[HEADS + column];
         while (left != 0 && right != 0) {
             const uint16_t *a = got_records + 4 * (left - 1), *b = wanted_records + 4 * (right - 1);
             expect(what, (uint64_t)a[1] << 16 | a[2], (uint64_t)b[1] << 16 | b[2]);
@@ -191,9 +199,9 @@ static const uint16_t bow_tie[] = {0, 0, 2, 1, 2, 0, 0, 1}; /* passes in turn 0;
 
 /* --------------------------------------------------------------------- open */
 
-static void refused_open(uint16_t width, uint16_t resolution, uint16_t columns, size_t words, uint64_t number) {
+static void refused_open(uint16_t width, uint16_t resolution, uint16_t columns, uint16_t gap, size_t words, uint64_t number) {
     struct buffer strip = make(words), before = copy(strip);
-    uint64_t answer = vikelodu_open(width, resolution, columns, strip.words, strip.count);
+    uint64_t answer = vikelodu_open(width, resolution, columns, gap, strip.words, strip.count);
     expect("refused open", answer, refused(number, 0));
     expect_same("strip of a refused open", strip, before);
     expect_fences("around it", strip);
@@ -202,18 +210,20 @@ static void refused_open(uint16_t width, uint16_t resolution, uint16_t columns, 
 }
 
 static void test_open(void) {
-    refused_open(0, 2, 10, 38, VIKELODU_WIDTH);
-    refused_open(16001, 2, 10, 38, VIKELODU_WIDTH);
-    refused_open(10, 0, 10, 38, VIKELODU_RESOLUTION);
-    refused_open(10, 401, 10, 38, VIKELODU_RESOLUTION);
-    refused_open(10, 2, 0, 38, VIKELODU_COLUMNS);
-    refused_open(10, 2, 4097, 38, VIKELODU_COLUMNS);
-    refused_open(10, 2, 10, 0, VIKELODU_STRIP_LENGTH);
-    refused_open(10, 2, 10, 14, VIKELODU_STRIP_LENGTH);
-    refused_open(10, 2, 10, 37, VIKELODU_STRIP_LENGTH);
-    refused_open(10, 2, 10, 39, VIKELODU_STRIP_LENGTH);
-    refused_open(10, 2, 10, VIKELODU_STRIP_WORDS(10, 16001), VIKELODU_STRIP_LENGTH);
-    drop(opened(16000, 400, 4096, 16000));
+    refused_open(0, 2, 10, 0, 39, VIKELODU_WIDTH);
+    refused_open(16001, 2, 10, 0, 39, VIKELODU_WIDTH);
+    refused_open(10, 0, 10, 0, 39, VIKELODU_RESOLUTION);
+    refused_open(10, 401, 10, 0, 39, VIKELODU_RESOLUTION);
+    refused_open(10, 2, 0, 0, 39, VIKELODU_COLUMNS);
+    refused_open(10, 2, 4097, 0, 39, VIKELODU_COLUMNS);
+    refused_open(10, 2, 10, 401, 39, VIKELODU_GAP);
+    refused_open(10, 2, 10, 65535, 39, VIKELODU_GAP);
+    refused_open(10, 2, 10, 0, 0, VIKELODU_STRIP_LENGTH);
+    refused_open(10, 2, 10, 0, 15, VIKELODU_STRIP_LENGTH);
+    refused_open(10, 2, 10, 0, 38, VIKELODU_STRIP_LENGTH);
+    refused_open(10, 2, 10, 400, 40, VIKELODU_STRIP_LENGTH);
+    refused_open(10, 2, 10, 0, VIKELODU_STRIP_WORDS(10, 16001), VIKELODU_STRIP_LENGTH);
+    drop(opened_with_gap(16000, 400, 4096, 400, 16000));
     drop(opened(1, 1, 1, 1));
 }
 
@@ -264,9 +274,14 @@ static void test_ill_formed_strips(void) {
     strip.words[cut.count] = FENCE;
     REFUSED_ALIKE("a strip cut off", cut, square, 0, 6, VIKELODU_ILL_FORMED, 0);
     strip.words[cut.count] = after;
-    strip.words[4] = 7;
+    strip.words[HEADS] = 7;
     REFUSED_ALIKE("a head past the last record", strip, square, 0, 6, VIKELODU_ILL_FORMED, 0);
-    strip.words[4] = 0;
+    strip.words[HEADS] = 0;
+    strip.words[GAP] = 401;
+    REFUSED_ALIKE("a gap of 401", strip, square, 0, 6, VIKELODU_ILL_FORMED, 0);
+    strip.words[GAP] = 65535;
+    REFUSED_ALIKE("a gap of 65,535", strip, square, 0, 6, VIKELODU_ILL_FORMED, 0);
+    strip.words[GAP] = 0;
     PLACE("the strip mended", strip, square, 1, 6, placed(0, 0, 0));
     drop(strip);
     drop(never_opened);
@@ -345,7 +360,7 @@ static void test_ask_then_commit(void) {
 
 /* Ask reads a strip in memory that no program can write. */
 static void test_ask_on_constant_words(void) {
-    static const uint16_t strip[] = {4, 2, 2, 1, 0, 0, 2, 0, 0, 2, 2, 0, 0, 0};
+    static const uint16_t strip[] = {4, 2, 2, 1, 0, 0, 0, 2, 0, 0, 2, 2, 0, 0, 0};
     uint16_t work[6];
     expect("words", WORDS(strip), VIKELODU_STRIP_WORDS(2, 2));
     expect("ask", vikelodu_ask(strip, WORDS(strip), square, WORDS(square), 15, work, WORDS(work)), placed(0, 0, 0));
@@ -427,10 +442,10 @@ static void test_commit_in_its_turn(void) {
 
 /* -------------------------------------------------------------------- cover */
 
-static void cover(const char *what, const uint16_t *outline, size_t outline_words, uint16_t turn, uint16_t resolution,
+static void cover(const char *what, const uint16_t *outline, size_t outline_words, uint16_t turn, uint16_t resolution, uint16_t gap,
                   size_t words, uint64_t number, uint64_t ordinal) {
     struct buffer output = make(words), before = copy(output);
-    uint64_t answer = vikelodu_cover(outline, outline_words, turn, resolution, output.words, output.count);
+    uint64_t answer = vikelodu_cover(outline, outline_words, turn, resolution, gap, output.words, output.count);
     expect(what, answer, refused(number, ordinal));
     expect_same(what, output, before);
     expect_fences("around the output", output);
@@ -444,7 +459,7 @@ static void test_cover(void) {
     static const uint16_t crossed[] = {0, 0, 1, 2, 1, 0, 0, 2};
     static const uint16_t flat[] = {0, 0, 4, 0, 2, 0};
     struct buffer output = make(9), before = copy(output);
-    uint64_t answer = vikelodu_cover(square, WORDS(square), 0, 2, output.words, output.count);
+    uint64_t answer = vikelodu_cover(square, WORDS(square), 0, 2, 0, output.words, output.count);
     expect("cover", vikelodu_number(answer), VIKELODU_GRANTED);
     expect("runs", vikelodu_runs(answer), 2);
     expect("the whole answer", answer, (uint64_t)2 << 32);
@@ -453,15 +468,57 @@ static void test_cover(void) {
     expect_fences("around the output", output);
     drop(output);
     drop(before);
-    cover("resolution 0", square, WORDS(square), 0, 0, 9, VIKELODU_RESOLUTION, 0);
-    cover("resolution 401", square, WORDS(square), 0, 401, 9, VIKELODU_RESOLUTION, 0);
-    cover("resolution 0 and two vertices", square, 4, 0, 0, 9, VIKELODU_RESOLUTION, 0);
-    cover("two vertices", square, 4, 0, 2, 9, VIKELODU_VERTICES, 1);
-    cover("16,001", far, WORDS(far), 0, 2, 9, VIKELODU_COORDINATE, 1);
-    cover("turn 4", square, WORDS(square), 4, 2, 9, VIKELODU_TURN, 1);
-    cover("edges that cross", crossed, WORDS(crossed), 0, 2, 9, VIKELODU_CROSSING, 1);
-    cover("a flat outline", flat, WORDS(flat), 0, 2, 9, VIKELODU_NO_CELL, 1);
-    cover("an output short by one", square, WORDS(square), 0, 2, 5, VIKELODU_BUFFER, 1);
+    cover("resolution 0", square, WORDS(square), 0, 0, 401, 9, VIKELODU_RESOLUTION, 0);
+    cover("resolution 401", square, WORDS(square), 0, 401, 0, 9, VIKELODU_RESOLUTION, 0);
+    cover("resolution 0 and two vertices", square, 4, 0, 0, 0, 9, VIKELODU_RESOLUTION, 0);
+    cover("gap 401", square, WORDS(square), 0, 2, 401, 9, VIKELODU_GAP, 0);
+    cover("gap 65,535 and two vertices", square, 4, 0, 2, 65535, 9, VIKELODU_GAP, 0);
+    cover("two vertices", square, 4, 0, 2, 400, 9, VIKELODU_VERTICES, 1);
+    cover("16,001", far, WORDS(far), 0, 2, 0, 9, VIKELODU_COORDINATE, 1);
+    cover("turn 4", square, WORDS(square), 4, 2, 0, 9, VIKELODU_TURN, 1);
+    cover("edges that cross", crossed, WORDS(crossed), 0, 2, 0, 9, VIKELODU_CROSSING, 1);
+    cover("a flat outline", flat, WORDS(flat), 0, 2, 3, 9, VIKELODU_NO_CELL, 1);
+    cover("an output short by one", square, WORDS(square), 0, 2, 0, 5, VIKELODU_BUFFER, 1);
+    cover("with gap 3 short by one", square, WORDS(square), 0, 2, 3, 11, VIKELODU_BUFFER, 1);
+}
+
+/* ---------------------------------------------------------------------- gap */
+
+/* The gap is taken in units to the right and up: S with gap 3 covers 7 rows of 4 columns of 2 units, with gap 1 5 rows of 3. */
+static void test_cover_with_gap(void) {
+    static const uint16_t gap_3[] = {0, 0, 7, 1, 0, 7, 2, 0, 7, 3, 0, 7}, gap_1[] = {0, 0, 5, 1, 0, 5, 2, 0, 5};
+    uint16_t output[12];
+    expect("gap 3", vikelodu_cover(square, WORDS(square), 0, 2, 3, output, WORDS(output)), (uint64_t)4 << 32);
+    expect("its runs", memcmp(output, gap_3, sizeof gap_3) == 0, 1);
+    expect("gap 1", vikelodu_cover(square, WORDS(square), 0, 2, 1, output, WORDS(output)), (uint64_t)3 << 32);
+    expect("its runs", memcmp(output, gap_1, sizeof gap_1) == 0, 1);
+}
+
+static void test_gap(void) {
+    struct buffer strip = opened_with_gap(10, 2, 10, 1, 40);
+    PLACE("a work buffer for the gap, too", strip, square, 1, 8, refused(VIKELODU_BUFFER, 1));
+    PLACE("first square", strip, square, 1, 9, placed(0, 0, 0));
+    expect_run(strip, 0, 0, 5);
+    expect_run(strip, 2, 0, 5);
+    ASK("a row apart", strip, square, 1, 9, placed(0, 0, 5));
+    COMMIT("not a row apart", strip, square, 0, 0, 4, 9, refused(VIKELODU_NOT_FREE, 0));
+    COMMIT("not a column apart", strip, square, 0, 2, 0, 9, refused(VIKELODU_NOT_FREE, 0));
+    PLACE("second square", strip, square, 1, 9, placed(0, 0, 5));
+    PLACE("third square", strip, square, 1, 9, placed(0, 3, 0));
+    expect("the gap stays", strip.words[GAP], 1);
+    drop(strip);
+
+    /* Cells past the top and the end are asked for by 12 and not entered. There is no gap to the edges. */
+    strip = opened_with_gap(4, 2, 2, 3, 2);
+    PLACE("eleven words", strip, square, 1, 11, refused(VIKELODU_BUFFER, 1));
+    PLACE("twelve words, two records", strip, square, 1, 12, placed(0, 0, 0));
+    expect_run(strip, 0, 0, 4);
+    expect_run(strip, 1, 0, 4);
+    drop(strip);
+    strip = opened_with_gap(4, 2, 10, 400, 40);
+    PLACE("the largest gap", strip, square, 1, 606, placed(0, 0, 0));
+    PLACE("leaves no room", strip, square, 1, 606, refused(VIKELODU_NO_POSITION, 1));
+    drop(strip);
 }
 
 /* ------------------------------------------------------------------ retrace */
@@ -506,7 +563,7 @@ static void test_retrace(void) {
 
 /* Buffers of bytes with an odd last byte, which is no part of them and stays. */
 static void test_bytes(void) {
-    enum { STRIP_BYTES = 2 * (4 + 10 + 4 * 6) + 1, WORK_BYTES = 13 };
+    enum { STRIP_BYTES = 2 * (5 + 10 + 4 * 6) + 1, WORK_BYTES = 13 };
     unsigned char *strip = malloc(STRIP_BYTES), *work = malloc(WORK_BYTES), *outline = malloc(sizeof square + 1);
     if (strip == NULL || work == NULL || outline == NULL) {
         printf("no memory\n");
@@ -519,7 +576,7 @@ static void test_bytes(void) {
         outline[2 * i + 1] = (unsigned char)(square[i] >> 8);
     }
     outline[sizeof square] = 0xEE;
-    expect("open on bytes", vikelodu_open(300, 2, 10, (uint16_t *)strip, STRIP_BYTES / 2), 0);
+    expect("open on bytes", vikelodu_open(300, 2, 10, 0, (uint16_t *)strip, STRIP_BYTES / 2), 0);
     expect("width, low byte first", strip[0] == (300 & 0xFF) && strip[1] == 300 >> 8, 1);
     uint64_t answer = vikelodu_place((uint16_t *)strip, STRIP_BYTES / 2, (uint16_t *)outline, (sizeof square + 1) / 2, 1,
                                      (uint16_t *)work, WORK_BYTES / 2);
@@ -1013,12 +1070,13 @@ static void drop_job(struct job of) {
 }
 
 /* Lay with buffers of so many words: the answer, the entries, and every word after them as before, the work buffer zero. */
-static struct job lay(const char *what, const uint8_t *sheet, size_t sheet_bytes, size_t strip_words, size_t output_words,
-                      size_t work_words, uint64_t wanted, const uint16_t *entries, size_t entry_words) {
+static struct job lay_with_gap(const char *what, uint16_t gap, const uint8_t *sheet, size_t sheet_bytes, size_t strip_words,
+                               size_t output_words, size_t work_words, uint64_t wanted, const uint16_t *entries,
+                               size_t entry_words) {
     struct bytes lent = copy_bytes(sheet, sheet_bytes);
     struct job made = {make(strip_words), make(output_words), make(work_words)};
     struct buffer after = copy(made.output);
-    expect(what, vikelodu_lay(lent.at, lent.count, made.strip.words, made.strip.count, made.output.words, made.output.count,
+    expect(what, vikelodu_lay(lent.at, lent.count, gap, made.strip.words, made.strip.count, made.output.words, made.output.count,
                               made.work.words, made.work.count),
            wanted);
     if (entry_words > 0) {
@@ -1038,14 +1096,25 @@ static struct job lay(const char *what, const uint8_t *sheet, size_t sheet_bytes
     return made;
 }
 
+static struct job lay(const char *what, const uint8_t *sheet, size_t sheet_bytes, size_t strip_words, size_t output_words,
+                      size_t work_words, uint64_t wanted, const uint16_t *entries, size_t entry_words) {
+    return lay_with_gap(what, 0, sheet, sheet_bytes, strip_words, output_words, work_words, wanted, entries, entry_words);
+}
+
 /* A refused job: strip and output have every word as before. */
-static void lay_refused(const char *what, const uint8_t *sheet, size_t sheet_bytes, size_t strip_words, size_t output_words,
-                        uint64_t number, uint64_t ordinal) {
-    struct job made = lay(what, sheet, sheet_bytes, strip_words, output_words, 6, refused(number, ordinal), NULL, 0);
+static void lay_refused_with_gap(const char *what, uint16_t gap, const uint8_t *sheet, size_t sheet_bytes, size_t strip_words,
+                                 size_t output_words, uint64_t number, uint64_t ordinal) {
+    uint64_t wanted = refused(number, ordinal);
+    struct job made = lay_with_gap(what, gap, sheet, sheet_bytes, strip_words, output_words, 6, wanted, NULL, 0);
     struct buffer before = make(strip_words);
     expect_same(what, made.strip, before);
     drop(before);
     drop_job(made);
+}
+
+static void lay_refused(const char *what, const uint8_t *sheet, size_t sheet_bytes, size_t strip_words, size_t output_words,
+                        uint64_t number, uint64_t ordinal) {
+    lay_refused_with_gap(what, 0, sheet, sheet_bytes, strip_words, output_words, number, ordinal);
 }
 
 static void test_lay(void) {
@@ -1063,7 +1132,7 @@ static void test_lay(void) {
         expect_run(made.strip, 1, 0, 8);
         expect_run(made.strip, 2, 0, 4);
         expect_run(made.strip, 3, 0, 4);
-        expect("column 4", made.strip.words[4 + 4], 0);
+        expect("column 4", made.strip.words[HEADS + 4], 0);
         PLACE("a fourth square", made.strip, square, 1, 6, placed(0, 2, 4));
         drop_job(made);
     }
@@ -1071,26 +1140,39 @@ static void test_lay(void) {
                           third_refused, 12);
     expect_run(made.strip, 0, 0, 8);
     expect_run(made.strip, 1, 0, 8);
-    expect("column 2", made.strip.words[4 + 2], 0);
+    expect("column 2", made.strip.words[HEADS + 2], 0);
     drop_job(made);
     made = lay("no work buffer", three_squares, size, VIKELODU_STRIP_WORDS(10, 4), 12, 0, laid(0, 0), none_placed, 12);
-    expect("column 0", made.strip.words[4], 0);
+    expect("column 0", made.strip.words[HEADS], 0);
     drop_job(made);
     made = lay("no pieces", no_pieces, sizeof no_pieces, VIKELODU_STRIP_WORDS(7, 1), 0, 0, laid(0, 0), NULL, 0);
     expect("the figures", made.strip.words[0] == 10 && made.strip.words[1] == 2 && made.strip.words[2] == 7, 1);
     drop_job(made);
 }
 
+/* The used columns are the outlines' own. */
+static void test_lay_with_gap(void) {
+    static const uint16_t apart[] = {0, 0, 0, 0, 0, 0, 0, 5, 0, 0, 3, 0};
+    size_t size = sizeof three_squares, words = VIKELODU_STRIP_WORDS(10, 40);
+    struct job made = lay_with_gap("squares a unit apart", 1, three_squares, size, words, 12, 9, laid(3, 5), apart, 12);
+    expect("the gap", made.strip.words[GAP], 1);
+    PLACE("a fourth square", made.strip, square, 1, 9, placed(0, 3, 5));
+    drop_job(made);
+    lay_refused_with_gap("gap 401", 401, three_squares, size, words, 12, VIKELODU_GAP, 0);
+    lay_refused_with_gap("gap 401, which is asked before 4", 401, three_squares, size, words + 1, 0, VIKELODU_GAP, 0);
+    lay_refused_with_gap("gap 65,535 after 2", 65535, three_squares, size - 1, words, 12, VIKELODU_SHEET_LENGTH, 0);
+}
+
 /* Lay on buffers of bytes with an odd last byte, which is no part of them and stays. */
 static void test_lay_on_bytes(void) {
-    enum { STRIP = 2 * (4 + 10 + 4 * 4), OUTPUT = 2 * 12, WORK = 2 * 6 };
+    enum { STRIP = 2 * (5 + 10 + 4 * 4), OUTPUT = 2 * 12, WORK = 2 * 6 };
     struct bytes all[] = {make_bytes(STRIP + 2), make_bytes(OUTPUT + 2), make_bytes(WORK + 2)};
     uint16_t *words[3];
     for (size_t i = 0; i < 3; i++) {
         /* The byte before them is the fence, so the first aligned byte is the second. */
         words[i] = (uint16_t *)(all[i].at + 1);
     }
-    uint64_t answer = vikelodu_lay(three_squares, sizeof three_squares, words[0], (STRIP + 1) / 2, words[1], (OUTPUT + 1) / 2,
+    uint64_t answer = vikelodu_lay(three_squares, sizeof three_squares, 0, words[0], (STRIP + 1) / 2, words[1], (OUTPUT + 1) / 2,
                                    words[2], (WORK + 1) / 2);
     expect("lay on bytes", answer, laid(3, 4));
     expect("width, low byte first", all[0].at[1] == 10 && all[0].at[2] == 0, 1);
@@ -1178,12 +1260,14 @@ static void test_calls_on_bytes(void) {
     static const uint16_t far[] = {0, 0, 16001, 0, 0, 4};
     struct buffer words = opened(10, 2, 10, 4), other = make(words.count);
     struct both strip = {words, bytes_of(other.words, other.count)};
-    expect("open on bytes, columns 0", vikelodu_open_bytes(10, 2, 0, strip.bytes.at, strip.bytes.count),
+    expect("open on bytes, columns 0", vikelodu_open_bytes(10, 2, 0, 401, strip.bytes.at, strip.bytes.count),
            refused(VIKELODU_COLUMNS, 0));
-    expect("open on bytes, a word less", vikelodu_open_bytes(10, 2, 10, strip.bytes.at, strip.bytes.count - 2),
+    expect("open on bytes, gap 401", vikelodu_open_bytes(10, 2, 10, 401, strip.bytes.at, strip.bytes.count - 2),
+           refused(VIKELODU_GAP, 0));
+    expect("open on bytes, a word less", vikelodu_open_bytes(10, 2, 10, 400, strip.bytes.at, strip.bytes.count - 2),
            refused(VIKELODU_STRIP_LENGTH, 0));
     expect_words("strip of a refused open on bytes", strip.bytes, other);
-    expect("open on bytes", vikelodu_open_bytes(10, 2, 10, strip.bytes.at, strip.bytes.count), 0);
+    expect("open on bytes", vikelodu_open_bytes(10, 2, 10, 0, strip.bytes.at, strip.bytes.count), 0);
     expect_words("an opened strip", strip.bytes, words);
     BOTH("first square", placing(1), strip, square, 6, placed(0, 0, 0));
     BOTH("second square's spot", asking(15), strip, square, 6, placed(0, 0, 4));
@@ -1213,17 +1297,32 @@ static void test_calls_on_bytes(void) {
     drop_bytes(never_opened.bytes);
 }
 
+/* A strip with a gap over 256, so that both of its bytes count. */
+static void test_gap_on_bytes(void) {
+    struct buffer words = opened_with_gap(10, 2, 10, 300, 10), other = make(words.count);
+    struct both strip = {words, bytes_of(other.words, other.count)};
+    expect("open on bytes, gap 300", vikelodu_open_bytes(10, 2, 10, 300, strip.bytes.at, strip.bytes.count), 0);
+    expect("the gap, low byte first", strip.bytes.at[2 * GAP] == (300 & 0xFF) && strip.bytes.at[2 * GAP + 1] == 300 >> 8, 1);
+    expect_words("an opened strip", strip.bytes, words);
+    BOTH("a square", placing(1), strip, square, 456, placed(0, 0, 0));
+    BOTH("another", placing(15), strip, square, 456, refused(VIKELODU_NO_POSITION, 1));
+    drop(words);
+    drop(other);
+    drop_bytes(strip.bytes);
+}
+
 /* Lay on words and on bytes: the same answer and the same words, of a refused job too. */
-static void lay_both(const char *what, const uint8_t *sheet, size_t sheet_bytes, size_t strip_words, size_t output_words,
-                     size_t work_words, uint64_t wanted) {
+static void lay_both(const char *what, uint16_t gap, const uint8_t *sheet, size_t sheet_bytes, size_t strip_words,
+                     size_t output_words, size_t work_words, uint64_t wanted) {
     struct buffer strip = make(strip_words), output = make(output_words), work = make(work_words);
     struct bytes lent = copy_bytes(sheet, sheet_bytes);
     struct bytes strip_bytes = bytes_of(strip.words, strip.count), output_bytes = bytes_of(output.words, output.count);
     struct bytes work_bytes = bytes_of(work.words, work.count);
-    expect(what, vikelodu_lay(sheet, sheet_bytes, strip.words, strip.count, output.words, output.count, work.words, work.count),
+    expect(what,
+           vikelodu_lay(sheet, sheet_bytes, gap, strip.words, strip.count, output.words, output.count, work.words, work.count),
            wanted);
     expect(what,
-           vikelodu_lay_bytes(lent.at, lent.count, strip_bytes.at, strip_bytes.count, output_bytes.at, output_bytes.count,
+           vikelodu_lay_bytes(lent.at, lent.count, gap, strip_bytes.at, strip_bytes.count, output_bytes.at, output_bytes.count,
                               work_bytes.at, work_bytes.count),
            wanted);
     expect_bytes(what, lent, sheet);
@@ -1242,13 +1341,16 @@ static void lay_both(const char *what, const uint8_t *sheet, size_t sheet_bytes,
 
 static void test_lay_as_bytes(void) {
     size_t size = sizeof three_squares, words = VIKELODU_STRIP_WORDS(10, 4);
-    lay_both("three squares", three_squares, size, words, 12, 6, laid(3, 4));
-    lay_both("the longest output and more", three_squares, size, words, VIKELODU_MOST_LAY_WORDS + 9, 6, laid(3, 4));
-    lay_both("a record too few", three_squares, size, VIKELODU_STRIP_WORDS(10, 3), 12, 6, laid(2, 2));
-    lay_both("no work buffer", three_squares, size, words, 12, 0, laid(0, 0));
-    lay_both("cut off", three_squares, size - 1, words, 12, 6, refused(VIKELODU_SHEET_LENGTH, 0));
-    lay_both("a strip short by one", three_squares, size, words - 1, 12, 6, refused(VIKELODU_STRIP_LENGTH, 0));
-    lay_both("an output short by one", three_squares, size, words, 11, 6, refused(VIKELODU_OUTPUT, 0));
+    lay_both("three squares", 0, three_squares, size, words, 12, 6, laid(3, 4));
+    lay_both("the longest output and more", 0, three_squares, size, words, VIKELODU_MOST_LAY_WORDS + 9, 6, laid(3, 4));
+    lay_both("a record too few", 0, three_squares, size, VIKELODU_STRIP_WORDS(10, 3), 12, 6, laid(2, 2));
+    lay_both("no work buffer", 0, three_squares, size, words, 12, 0, laid(0, 0));
+    lay_both("cut off", 0, three_squares, size - 1, words, 12, 6, refused(VIKELODU_SHEET_LENGTH, 0));
+    lay_both("a strip short by one", 0, three_squares, size, words - 1, 12, 6, refused(VIKELODU_STRIP_LENGTH, 0));
+    lay_both("an output short by one", 0, three_squares, size, words, 11, 6, refused(VIKELODU_OUTPUT, 0));
+    lay_both("a unit apart", 1, three_squares, size, VIKELODU_STRIP_WORDS(10, 40), 12, 9, laid(3, 5));
+    lay_both("gap 300", 300, three_squares, size, VIKELODU_STRIP_WORDS(10, 40), 12, 456, laid(1, 2));
+    lay_both("gap 401", 401, three_squares, size, words - 1, 11, 6, refused(VIKELODU_GAP, 0));
 }
 
 /* The sheet of three squares with one byte changed. */
@@ -1278,7 +1380,7 @@ static void test_refused_jobs(void) {
 }
 
 /* Width, resolution and columns out of limits, one by one and together, where what is asked after them is wrong too: the length
-   of the strip (4), the piece chain or the list's count (6). */
+   of the strip (4), the gap (21), the piece chain or the list's count (6). */
 static void test_limits(void) {
     static const struct {
         uint16_t width, resolution, columns, number;
@@ -1306,9 +1408,9 @@ static void test_limits(void) {
             sheet[4 + 2 * j] = (uint8_t)figures[j];
             sheet[5 + 2 * j] = (uint8_t)(figures[j] >> 8);
         }
-        refused_open(width, resolution, columns, 3, number);
+        refused_open(width, resolution, columns, 401, 3, number);
         READ_REFUSED("figures of a sheet", sheet, 100, number, 0);
-        lay_refused("figures of a job", sheet, sizeof sheet, 3, 12, number, 0);
+        lay_refused_with_gap("figures of a job", 401, sheet, sizeof sheet, 3, 12, number, 0);
         struct bytes output = make_bytes(90), before = make_bytes(90);
         uint64_t answer = vikelodu_write(width, resolution, columns, pieces_201, 1, output.at, output.count);
         expect("figures of a list", answer, refused(number, 0));
@@ -1355,6 +1457,8 @@ int main(void) {
     test_commit_not_free();
     test_commit_in_its_turn();
     test_cover();
+    test_cover_with_gap();
+    test_gap();
     test_retrace();
     test_bytes();
     test_read();
@@ -1368,8 +1472,10 @@ int main(void) {
     test_write_path();
     test_path_round_trip();
     test_lay();
+    test_lay_with_gap();
     test_lay_on_bytes();
     test_calls_on_bytes();
+    test_gap_on_bytes();
     test_lay_as_bytes();
     test_refused_jobs();
     test_limits();

@@ -4,7 +4,7 @@
 #include <stdio.h>
 #include <string.h>
 
-enum { CORNERS = 6, WIDTH = 2400, RESOLUTION = 40, COLUMNS = 100, RECORDS = 400 };
+enum { CORNERS = 6, WIDTH = 2400, RESOLUTION = 40, COLUMNS = 100, GAP = 40, RECORDS = 400 };
 
 /* A wallet with a slanted flap, in millimetres. */
 static const float wallet[CORNERS][2] = {{0, 0}, {150, 0}, {150, 210.5f}, {135, 240.25f}, {15, 240.25f}, {0, 210.5f}};
@@ -49,10 +49,10 @@ static size_t read_outline(const uint8_t *path, size_t bytes, uint16_t *outline)
     }
 }
 
-/* Where the wallet lies on a strip 300 mm wide, in columns of 5 mm; all four turns are allowed. */
+/* Where the wallet lies on a strip 300 mm wide, in columns of 5 mm, with 5 mm to the next piece; all four turns are allowed. */
 static int place(const uint16_t *outline, size_t words) {
     static uint16_t strip[VIKELODU_STRIP_WORDS(COLUMNS, RECORDS)], work[600];
-    uint64_t answer = vikelodu_open(WIDTH, RESOLUTION, COLUMNS, strip, sizeof strip / 2);
+    uint64_t answer = vikelodu_open(WIDTH, RESOLUTION, COLUMNS, GAP, strip, sizeof strip / 2);
     if (vikelodu_number(answer) == VIKELODU_GRANTED) {
         answer = vikelodu_place(strip, sizeof strip / 2, outline, words, 15, work, sizeof work / 2);
     }

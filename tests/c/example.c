@@ -4,7 +4,8 @@
 
 #include <stdio.h>
 
-enum { WIDTH = 10, RESOLUTION = 2, COLUMNS = 10, RECORDS = 6 };
+/* GAP is the units that pieces are kept apart. */
+enum { WIDTH = 10, RESOLUTION = 2, COLUMNS = 10, GAP = 0, RECORDS = 6 };
 
 static uint16_t strip[VIKELODU_STRIP_WORDS(COLUMNS, RECORDS)];
 static uint16_t work[300];
@@ -13,7 +14,7 @@ static const uint16_t square[] = {0, 0, 4, 0, 4, 4, 0, 4};
 static const uint16_t mask = 1; /* turn 0 alone */
 
 static int one_by_one(void) {
-    uint64_t answer = vikelodu_open(WIDTH, RESOLUTION, COLUMNS, strip, sizeof strip / 2);
+    uint64_t answer = vikelodu_open(WIDTH, RESOLUTION, COLUMNS, GAP, strip, sizeof strip / 2);
     if (vikelodu_number(answer) != VIKELODU_GRANTED) {
         printf("open refused %d\n", vikelodu_number(answer));
         return 1;
@@ -38,7 +39,7 @@ static int as_a_job(void) {
 
     uint64_t answer = vikelodu_write(WIDTH, RESOLUTION, COLUMNS, list, sizeof list / 2, sheet, sizeof sheet);
     if (vikelodu_number(answer) == VIKELODU_GRANTED) {
-        answer = vikelodu_lay(sheet, vikelodu_size(answer), strip, sizeof strip / 2, output, sizeof output / 2, work,
+        answer = vikelodu_lay(sheet, vikelodu_size(answer), GAP, strip, sizeof strip / 2, output, sizeof output / 2, work,
                               sizeof work / 2);
     }
     if (vikelodu_number(answer) != VIKELODU_GRANTED) {

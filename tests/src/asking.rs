@@ -54,6 +54,6 @@ pub fn commit(
     }
     let columns = runs_after(&board, piece, spot);
     ask_14(strip, &columns)?;
-    put_runs(strip, strip[0], strip[1], strip[2], &columns);
+    put_runs(strip, strip[0], strip[1], strip[2], strip[4], &columns);
     Ok(())
 }

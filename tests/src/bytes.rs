@@ -23,9 +23,9 @@ fn put_back(bytes: &mut [u8], words: &[u16]) {
     }
 }
 
-pub fn open_bytes(w: u16, r: u16, n: u16, strip: &mut [u8]) -> Result<(), Refusal> {
+pub fn open_bytes(w: u16, r: u16, n: u16, g: u16, strip: &mut [u8]) -> Result<(), Refusal> {
     let mut strip_words = words(strip);
-    let answer = crate::open(w, r, n, &mut strip_words);
+    let answer = crate::open(w, r, n, g, &mut strip_words);
     put_back(strip, &strip_words);
     answer
 }
@@ -70,6 +70,7 @@ pub fn commit_bytes(
 
 pub fn lay_bytes(
     sheet: &[u8],
+    g: u16,
     strip: &mut [u8],
     output: &mut [u8],
     work: &mut [u8],
@@ -77,7 +78,13 @@ pub fn lay_bytes(
     let mut strip_words = words(strip);
     let mut output_words = words(output);
     let mut work_words = words(work);
-    let answer = crate::lay(sheet, &mut strip_words, &mut output_words, &mut work_words);
+    let answer = crate::lay(
+        sheet,
+        g,
+        &mut strip_words,
+        &mut output_words,
+        &mut work_words,
+    );
     put_back(strip, &strip_words);
     put_back(output, &output_words);
     put_back(work, &work_words);

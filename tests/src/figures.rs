@@ -17,13 +17,15 @@ pub const MOST_RESOLUTION: u16 = 400;
 pub const MOST_WIDTH: u16 = 16_000;
 pub const MOST_COLUMNS: u16 = 4_096;
 pub const MOST_RECORDS: usize = 16_000;
+/// S-4: "a gap g of 0 to 400 units"
+pub const MOST_GAP: u16 = 400;
 /// "end within 200 pieces"
 pub const MOST_PIECES: usize = 200;
 /// "at most 65,536"
 pub const MOST_SHEET_BYTES: usize = 65_536;
 
-/// The numbers, by S-1 to S-3 up to 20, and 0 for granted: for counts by number.
-pub const NUMBERS: usize = 21;
+/// The numbers, by S-1 to S-4 up to 21, and 0 for granted: for counts by number.
+pub const NUMBERS: usize = 22;
 
 /// "'No' gives the number and the piece's ordinal"
 #[derive(Clone, Copy, Debug, PartialEq, Eq)]

@@ -3,8 +3,9 @@
 use crate::figures::*;
 use crate::outline::{columns_wide, extent, turned, vertices};
 use crate::placing::place;
+use crate::questions::ask_21;
 use crate::sheet::{ask_head, pieces_of_sheet};
-use crate::strip::{ask_4, open};
+use crate::strip::{ask_4, open, LEADING};
 
 /// "Output is four words a piece: 0 or its number, turn, column, height (zeros
 /// if refused)."
@@ -14,9 +15,10 @@ const ENTRY: usize = 4;
 /// order, going on after a piece that is refused."
 ///
 /// "lay 1 to 4, 6 to 11, 15, and 12 to 14 only as a piece's fate", by S-1 with 16
-/// and 17 after 3
+/// and 17 after 3, by S-4 with 21 after these
 pub fn lay(
     sheet: &[u8],
+    g: u16,
     strip: &mut [u16],
     output: &mut [u16],
     work: &mut [u16],
@@ -24,20 +26,26 @@ pub fn lay(
     // "A work buffer is zero after each call."
     work.fill(0);
     let figures = ask_head(sheet)?;
+    ask_21(g)?;
     ask_4(strip.len(), figures.columns)?;
     let pieces = pieces_of_sheet(sheet)?;
     // "15. Does the output buffer hold the output?"
     if output.len() < ENTRY * pieces.len() {
         return Err(no(15, 0));
     }
-    open(figures.width, figures.resolution, figures.columns, strip)?;
+    let Figures {
+        width,
+        resolution,
+        columns,
+    } = figures;
+    open(width, resolution, columns, g, strip)?;
     let mut totals = Totals { placed: 0, used: 0 };
     for (piece, entry) in pieces.iter().zip(output.chunks_exact_mut(ENTRY)) {
         match place(strip, &piece.outline, piece.mask, work) {
             Ok(position) => {
                 entry.copy_from_slice(&[0, position.turn, position.column, position.height]);
                 totals.placed += 1;
-                let end = end_column(piece, &position, figures.resolution);
+                let end = end_column(piece, &position, resolution);
                 totals.used = totals.used.max(end);
             }
             Err(refusal) => entry.copy_from_slice(&[refusal.number, 0, 0, 0]),
@@ -46,7 +54,8 @@ pub fn lay(
     Ok(totals)
 }
 
-/// "one more than the greatest last column": one more than this piece's.
+/// "one more than the greatest last column": one more than this piece's. S-4:
+/// "extents stay those of the outline".
 fn end_column(piece: &Piece, position: &Position, r: u16) -> u16 {
     let (w, _) = extent(&turned(&vertices(&piece.outline), position.turn));
     position.column + columns_wide(w, i64::from(r)) as u16
@@ -62,15 +71,15 @@ pub struct LaidJob {
 }
 
 /// "Program `lay` reads a sheet from standard input (Q 4,000, work buffer 9,000
-/// words)."
-pub fn laid_job(sheet: &[u8]) -> Result<LaidJob, Refusal> {
+/// words)." S-4: "the program passes 0" for g; any may be given here.
+pub fn laid_job(sheet: &[u8], g: u16) -> Result<LaidJob, Refusal> {
     // N is needed for the strip's length. Where 1, 2, 3, 16 or 17 says no, so
     // would lay itself, before it asks about the strip.
     let figures = ask_head(sheet)?;
-    let mut strip = vec![0; 4 + usize::from(figures.columns) + 4 * 4_000];
+    let mut strip = vec![0; LEADING + usize::from(figures.columns) + 4 * 4_000];
     let mut work = vec![0; 9_000];
     let mut output = vec![0; ENTRY * MOST_PIECES];
-    let totals = lay(sheet, &mut strip, &mut output, &mut work)?;
+    let totals = lay(sheet, g, &mut strip, &mut output, &mut work)?;
     let pieces = pieces_of_sheet(sheet)?;
     let entries = output.chunks_exact(ENTRY).take(pieces.len());
     Ok(LaidJob {
@@ -94,7 +103,7 @@ fn fate(entry: &[u16]) -> Result<Position, u16> {
 
 /// What program `lay` prints for the whole of its standard input.
 pub fn lay_text(input: &[u8]) -> String {
-    match laid_job(input) {
+    match laid_job(input, 0) {
         Ok(job) => text(&job),
         Err(refusal) => format!("{refusal}\n"),
     }

@@ -1,5 +1,5 @@
 //! A reference program for document 01, the box-board nesting engine, as change
-//! requests S-1 to S-3 have changed it.
+//! requests S-1 to S-4 have changed it.
 //!
 //! It is written straight from the sentences of the two papers, which are quoted
 //! above the functions that state them, and it prefers the plain way to the
@@ -10,12 +10,14 @@
 //!
 //! Modules [`text`], [`picture`] and [`retrace`] are not of the papers: they say
 //! what programs `sheet`, `show` and `draw` print, and what an outline draws twice.
+//! Module [`distance`] judges placed pieces without cells.
 //!
 //! Module [`generate`] makes inputs of every kind, good and bad, from a seed.
 
 pub mod asking;
 pub mod bytes;
 pub mod cells;
+pub mod distance;
 pub mod figures;
 pub mod generate;
 pub mod laying;

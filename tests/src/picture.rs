@@ -1,4 +1,5 @@
-//! The picture of a sheet's job, in SVG: what program `draw` prints.
+//! The picture of a sheet's job, in SVG, with the gap in front of it or without one:
+//! what program `draw` prints.
 //!
 //! Lengths are hundredths of a unit until they are written. Heights are written
 //! as negative y, since SVG's y goes down: the strip's lower edge is y = 0. What
@@ -9,15 +10,17 @@ use crate::figures::*;
 use crate::laying::{laid_job, LaidJob};
 use crate::outline::{extent, turned, vertices, Vertex};
 use crate::retrace::drawn_twice;
+use crate::text::gap_and_sheet;
 use std::collections::BTreeSet;
 use std::ops::Range;
 
 const HEAD: &str =
     "<svg xmlns='http://www.w3.org/2000/svg' style='background:#fff' font-family='sans-serif'";
 
-pub fn draw(sheet: &[u8]) -> String {
-    match laid_job(sheet) {
-        Ok(job) => Picture::new(&job).svg(),
+pub fn draw(input: &[u8]) -> String {
+    let (gap, sheet) = gap_and_sheet(input);
+    match laid_job(sheet, gap) {
+        Ok(job) => Picture::new(&job, gap).svg(),
         Err(refusal) => format!(
             "{HEAD} font-size='20' viewBox='0 0 240 50'>\n\
              <text x='20' y='32'>{refusal}</text>\n\
@@ -53,11 +56,12 @@ struct Picture<'a> {
     width: u64,
     resolution: u64,
     shown: u64,
+    gap: u64,
     font: u64,
 }
 
 impl Picture<'_> {
-    fn new(job: &LaidJob) -> Picture<'_> {
+    fn new(job: &LaidJob, gap: u16) -> Picture<'_> {
         let [width, resolution, columns, used] = [
             job.figures.width,
             job.figures.resolution,
@@ -72,6 +76,7 @@ impl Picture<'_> {
             width,
             resolution,
             shown,
+            gap: u64::from(gap),
             // 3 % of the width or 1 % of the length.
             font: (3 * width).max(shown * resolution),
         }
@@ -81,11 +86,13 @@ impl Picture<'_> {
         [
             self.head(),
             self.columns(),
+            self.shade(),
             self.pieces(),
             self.twice(),
             self.lengths(),
             self.caption(),
             self.dashed(),
+            self.shaded(),
             self.refusals(),
             "</svg>\n".to_string(),
         ]
@@ -126,11 +133,26 @@ impl Picture<'_> {
         (self.span() / (9 * self.font)).clamp(2, 11)
     }
 
-    /// The height below the strip: 7 em, and 1.4 em for each row of refused
-    /// pieces.
+    /// The height below the strip: 7 em, and 1.4 em for a gap and for each row of
+    /// refused pieces.
     fn below(&self) -> u64 {
-        let rows = self.refused().div_ceil(self.in_row()) * self.font;
+        let rows = (self.gap_rows() + self.refused().div_ceil(self.in_row())) * self.font;
         7 * self.font + rows + rows / 5 * 2
+    }
+
+    /// How thick outlines are: 0.09 em, at most a 40th of the width. Where there is a
+    /// gap they leave half of it free, but are a third as thick at least.
+    fn thickness(&self) -> u64 {
+        let most = (9 * self.font).min(250 * self.width) / 100 + 1;
+        match self.gap {
+            0 => most,
+            gap => (50 * gap).clamp(most / 3, most),
+        }
+    }
+
+    /// The rows of the gap: one, if there is a gap.
+    fn gap_rows(&self) -> u64 {
+        self.gap.min(1)
     }
 
     /// `viewBox`: 2.5 em beside the strip and 3 em above it.
@@ -151,7 +173,7 @@ impl Picture<'_> {
     fn head(&self) -> String {
         let font = self.length(self.font);
         let view = self.view();
-        let line = self.length((9 * self.font).min(250 * self.width) / 100 + 1);
+        let line = self.length(self.thickness());
         let high = self.length(100 * self.width);
         let shown = self.length(100 * self.units(self.shown));
         let used = self.length(100 * self.used());
@@ -244,17 +266,49 @@ impl Picture<'_> {
         }
     }
 
+    /// What is shaded, if there is a gap.
+    fn shaded(&self) -> String {
+        match self.gap {
+            0 => String::new(),
+            gap => {
+                let gap = millimetres(gap);
+                format!("<text y='7.80em'>shaded: gap of {gap} mm</text>\n")
+            }
+        }
+    }
+
     fn refusals(&self) -> String {
         let mut lines = String::new();
         let mut place = 0;
         for (ordinal, fate) in (1..).zip(&self.job.fates) {
             let Err(number) = fate else { continue };
             let x = place % self.in_row() * 9;
-            let y = hundredths(780 + place / self.in_row() * 140);
+            let y = hundredths(780 + (self.gap_rows() + place / self.in_row()) * 140);
             lines += &format!("<text x='{x}em' y='{y}em'>{ordinal} refused {number}</text>\n");
             place += 1;
         }
         lines
+    }
+
+    /// The gap around the placed pieces, if there is one, within the strip. Nothing of
+    /// another piece lies in it.
+    fn shade(&self) -> String {
+        if self.gap == 0 {
+            return String::new();
+        }
+        let high = self.length(100 * self.width);
+        let shown = self.length(100 * self.units(self.shown));
+        let thick = self.length(200 * self.gap);
+        let pieces = self.job.pieces.iter().zip(&self.job.fates);
+        let outlines: String = pieces
+            .filter_map(|(piece, fate)| Some((piece, fate.as_ref().ok()?)))
+            .map(|(piece, position)| format!("M{}Z", self.points(piece, position)))
+            .collect();
+        format!(
+            "<clipPath id='strip'><rect y='-{high}' width='{shown}' height='{high}'/></clipPath>\n\
+             <path clip-path='url(#strip)' fill='none' stroke='#f2cf9c' stroke-linejoin='round' \
+             stroke-width='{thick}' d='{outlines}'/>\n"
+        )
     }
 
     fn pieces(&self) -> String {
@@ -295,19 +349,26 @@ impl Picture<'_> {
         }
     }
 
-    /// A placed piece, with its ordinal in it.
-    fn piece(&self, ordinal: u64, piece: &Piece, position: &Position) -> String {
-        let outline = turned(&vertices(&piece.outline), position.turn);
+    /// The vertices of a placed piece.
+    fn points(&self, piece: &Piece, position: &Position) -> String {
         let x = 100 * self.units(u64::from(position.column));
         let y = 100 * u64::from(position.height);
-        let points: String = outline
+        turned(&vertices(&piece.outline), position.turn)
             .iter()
             .map(|&vertex| {
                 let right = self.length(x + 100 * vertex.0 as u64);
                 let up = self.length(y + 100 * vertex.1 as u64);
                 format!(" {right},-{up}")
             })
-            .collect();
+            .collect()
+    }
+
+    /// A placed piece, with its ordinal in it.
+    fn piece(&self, ordinal: u64, piece: &Piece, position: &Position) -> String {
+        let outline = turned(&vertices(&piece.outline), position.turn);
+        let x = 100 * self.units(u64::from(position.column));
+        let y = 100 * u64::from(position.height);
+        let points = self.points(piece, position);
         let mark = Mark::new(&outline, ordinal, self.font);
         let middle = self.length(x + mark.x);
         let up = self.length(y + mark.y);

@@ -1,12 +1,12 @@
 //! Positions, the search for the best one, and the place call.
 
-use crate::cells::{runs_of, stretches, Run};
+use crate::cells::{runs_with_gap, stretches, Run};
 use crate::figures::*;
 use crate::outline::*;
 use crate::questions::*;
-use crate::strip::{put_runs, strip_runs, well_formed, Stretch};
+use crate::strip::{put_runs, strip_runs, well_formed, Stretch, LEADING};
 
-/// A piece in one turn: its extent and its runs.
+/// A piece in one turn: its extent, and its runs as cover gives them with the gap.
 #[derive(Clone, Debug)]
 pub struct TurnedPiece {
     pub turn: u16,
@@ -15,22 +15,24 @@ pub struct TurnedPiece {
     pub runs: Vec<Run>,
 }
 
-/// The strip of one place call: W, R, N and the runs of each column.
+/// The strip of one place call: W, R, N, g and the runs of each column.
 #[derive(Clone, Debug)]
 pub struct Board {
     pub w: i64,
     pub r: i64,
     pub n: i64,
+    pub g: i64,
     pub columns: Vec<Vec<Stretch>>,
 }
 
 /// Column c and height y.
 pub type Spot = (i64, i64);
 
-pub fn turned_piece(outline: &[u16], turn: u16, r: i64) -> TurnedPiece {
+/// S-4: "extents stay those of the outline".
+pub fn turned_piece(outline: &[u16], turn: u16, r: i64, g: i64) -> TurnedPiece {
     let outline = turned(&vertices(outline), turn);
     let (w, h) = extent(&outline);
-    let runs = runs_of(&outline, r);
+    let runs = runs_with_gap(&outline, r, g);
     TurnedPiece { turn, w, h, runs }
 }
 
@@ -40,6 +42,7 @@ pub fn board_of(strip: &[u16]) -> Board {
         w: i64::from(strip[0]),
         r: i64::from(strip[1]),
         n: i64::from(strip[2]),
+        g: i64::from(strip[4]),
         columns: strip_runs(strip),
     }
 }
@@ -64,12 +67,23 @@ pub fn is_occupied(board: &Board, column: i64, row: i64) -> bool {
         .any(|&(low, high)| i64::from(low) <= row && row < i64::from(high))
 }
 
+/// The runs of the piece moved to (c, y). S-4: "Covered cells past the strip's top
+/// or end don't count".
+fn runs_on_strip(board: &Board, piece: &TurnedPiece, (c, y): Spot) -> Vec<Run> {
+    let moved = piece.runs.iter().map(|&(column, low, high)| {
+        let up_to_top = |row: i64| (y + row).min(board.w);
+        (c + column, up_to_top(low), up_to_top(high))
+    });
+    moved
+        .filter(|&(column, low, high)| column < board.n && low < high)
+        .collect()
+}
+
 /// "A position is free if no covered cell of the moved piece is occupied."
-pub fn is_free_plain(board: &Board, piece: &TurnedPiece, (c, y): Spot) -> bool {
-    piece
-        .runs
+pub fn is_free_plain(board: &Board, piece: &TurnedPiece, spot: Spot) -> bool {
+    runs_on_strip(board, piece, spot)
         .iter()
-        .all(|&(column, low, high)| (low..high).all(|row| !is_occupied(board, c + column, y + row)))
+        .all(|&(column, low, high)| (low..high).all(|row| !is_occupied(board, column, row)))
 }
 
 /// "Each turn takes its least free (c, y)": c first, then y. Tries every
@@ -107,9 +121,11 @@ fn least_height(board: &Board, piece: &TurnedPiece, c: i64) -> Option<i64> {
     // clashes[y] minus clashes[y-1] for each y: how many more pairs of runs
     // overlap at y than one lower.
     let mut more = vec![0i64; most as usize + 2];
-    for &(column, low, high) in &piece.runs {
+    let on_strip = |run: &&Run| c + run.0 < board.n;
+    for &(column, low, high) in piece.runs.iter().filter(on_strip) {
         for &(taken_low, taken_high) in &board.columns[(c + column) as usize] {
-            // They overlap when low + y < taken_high and taken_low < high + y.
+            // They overlap when low + y < taken_high and taken_low < high + y. No
+            // run of the strip goes past its top, so rows past it meet none.
             let first = (i64::from(taken_low) - high + 1).max(0);
             let last = (i64::from(taken_high) - low - 1).min(most);
             if first <= last {
@@ -159,17 +175,18 @@ pub fn best<'a>(
 }
 
 /// "the piece's cells are added, touching runs joined": the runs of each column
-/// after placing.
-pub fn runs_after(board: &Board, piece: &TurnedPiece, (c, y): Spot) -> Vec<Vec<Stretch>> {
+/// after placing, of the cells that count.
+pub fn runs_after(board: &Board, piece: &TurnedPiece, spot: Spot) -> Vec<Vec<Stretch>> {
     let mut columns = board.columns.clone();
-    for runs in piece.runs.chunk_by(|a, b| a.0 == b.0) {
-        let column = &mut columns[(c + runs[0].0) as usize];
+    let entered = runs_on_strip(board, piece, spot);
+    for runs in entered.chunk_by(|a, b| a.0 == b.0) {
+        let column = &mut columns[runs[0].0 as usize];
         let mut rows = vec![false; board.w as usize];
         for &(low, high) in column.iter() {
             rows[usize::from(low)..usize::from(high)].fill(true);
         }
         for &(_, low, high) in runs {
-            rows[(y + low) as usize..(y + high) as usize].fill(true);
+            rows[low as usize..high as usize].fill(true);
         }
         *column = stretches(&rows)
             .into_iter()
@@ -199,10 +216,11 @@ pub fn ask_5_to_12(
     let board = board_of(strip);
     let pieces: Vec<TurnedPiece> = allowed
         .iter()
-        .map(|&turn| turned_piece(outline, turn, board.r))
+        .map(|&turn| turned_piece(outline, turn, board.r, board.g))
         .collect();
     // "12. Has the buffer (cover's output, else the work buffer) three words
-    // for each run of the allowed turn that has most runs?"
+    // for each run of the allowed turn that has most runs?" It comes before any
+    // position: runs past the strip's top or end are asked for, too.
     let most_runs = pieces.iter().map(|piece| piece.runs.len()).max();
     if work < 3 * most_runs.unwrap_or(0) {
         return Err(no(12, 1));
@@ -212,7 +230,7 @@ pub fn ask_5_to_12(
 
 /// "14. Are the strip's runs after placing at most Q?"
 pub fn ask_14(strip: &[u16], columns_after: &[Vec<Stretch>]) -> Result<(), Refusal> {
-    let q = (strip.len() - 4 - columns_after.len()) / 4;
+    let q = (strip.len() - LEADING - columns_after.len()) / 4;
     if columns_after.iter().map(Vec::len).sum::<usize>() > q {
         return Err(no(14, 1));
     }
@@ -255,6 +273,6 @@ pub fn place(
     // "A work buffer is zero after each call." Only its length is used here.
     work.fill(0);
     let (position, columns) = find(strip, outline, mask, work.len())?;
-    put_runs(strip, strip[0], strip[1], strip[2], &columns);
+    put_runs(strip, strip[0], strip[1], strip[2], strip[4], &columns);
     Ok(position)
 }

@@ -1,4 +1,4 @@
-//! The questions that several calls put: 3, 16 and 17, and 7 to 11 of one piece.
+//! The questions that several calls put: 3, 16, 17 and 21, and 7 to 11 of one piece.
 
 use crate::cells::a_cell_is_covered;
 use crate::figures::*;
@@ -10,6 +10,15 @@ pub fn ask_16(r: u16) -> Result<(), Refusal> {
         Ok(())
     } else {
         Err(no(16, 0))
+    }
+}
+
+/// S-4: "21 when g is over 400, directly after 16 and 17"
+pub fn ask_21(g: u16) -> Result<(), Refusal> {
+    if g <= MOST_GAP {
+        Ok(())
+    } else {
+        Err(no(21, 0))
     }
 }
 

@@ -2,10 +2,14 @@
 //!
 //! "The strip is 4 + N + 4Q lent 16-bit words: W, R, N, first free record; then
 //! each column's first record; then records 1 to Q of four words: column, low,
-//! high, next."
+//! high, next." Changed by S-4: "A strip is opened with a gap g of 0 to 400 units,
+//! kept in a fifth leading word; records and heads move up by one."
 
 use crate::figures::*;
 use crate::questions::*;
+
+/// W, R, N, first free record and, by S-4, the gap.
+pub const LEADING: usize = 5;
 
 /// A record of a strip.
 #[derive(Clone, Copy, Debug, PartialEq, Eq)]
@@ -19,10 +23,10 @@ pub struct Record {
 /// A run of one column, rows low to high−1.
 pub type Stretch = (u16, u16);
 
-/// Q, if a strip of this length and N columns is "4 + N + 4Q" words with
-/// "records Q 1 to 16,000".
+/// Q, if a strip of this length and N columns is "4 + N + 4Q" words, by S-4 one
+/// more, with "records Q 1 to 16,000".
 pub fn records_in(length: usize, n: usize) -> Option<usize> {
-    let words = length.checked_sub(4 + n)?;
+    let words = length.checked_sub(LEADING + n)?;
     let q = words / 4;
     if words == 4 * q && (1..=MOST_RECORDS).contains(&q) {
         Some(q)
@@ -33,7 +37,7 @@ pub fn records_in(length: usize, n: usize) -> Option<usize> {
 
 /// Where record `number`, counted from 1, begins.
 pub fn record_place(n: usize, number: usize) -> usize {
-    4 + n + 4 * (number - 1)
+    LEADING + n + 4 * (number - 1)
 }
 
 fn record(strip: &[u16], n: usize, number: usize) -> Record {
@@ -65,13 +69,13 @@ fn chain(strip: &[u16], n: usize, q: usize, first: u16) -> Option<Vec<usize>> {
 /// "Well formed means: length and limits kept; free records as just said; each
 /// column's chain holds records of that column, low < high ≤ W, each low
 /// greater than the high before it; every chain ends in zero; each record is in
-/// one chain."
+/// one chain." The limits are those of W, R, N and, by S-4, of the gap.
 pub fn well_formed(strip: &[u16]) -> bool {
-    if strip.len() < 4 {
+    if strip.len() < LEADING {
         return false;
     }
-    let (w, r, n, first_free) = (strip[0], strip[1], strip[2], strip[3]);
-    if ask_limits(w, r, n).is_err() {
+    let (w, r, n, first_free, g) = (strip[0], strip[1], strip[2], strip[3], strip[4]);
+    if ask_limits(w, r, n).is_err() || ask_21(g).is_err() {
         return false;
     }
     let n = usize::from(n);
@@ -80,7 +84,7 @@ pub fn well_formed(strip: &[u16]) -> bool {
     };
     let mut times_seen = vec![0; q + 1];
     for column in 0..n {
-        let Some(numbers) = chain(strip, n, q, strip[4 + column]) else {
+        let Some(numbers) = chain(strip, n, q, strip[LEADING + column]) else {
             return false;
         };
         let records: Vec<Record> = numbers
@@ -126,10 +130,10 @@ pub fn strip_runs(strip: &[u16]) -> Vec<Vec<Stretch>> {
         return Vec::new();
     }
     let n = usize::from(strip[2]);
-    let q = (strip.len() - 4 - n) / 4;
+    let q = (strip.len() - LEADING - n) / 4;
     (0..n)
         .map(|column| {
-            chain(strip, n, q, strip[4 + column])
+            chain(strip, n, q, strip[LEADING + column])
                 .unwrap_or_default()
                 .into_iter()
                 .map(|number| record(strip, n, number))
@@ -147,24 +151,26 @@ pub fn same_strip(a: &[u16], b: &[u16]) -> bool {
         && well_formed(b)
         && a.len() == b.len()
         && a[..3] == b[..3]
+        && a[4] == b[4]
         && strip_runs(a) == strip_runs(b)
 }
 
 /// Writes the runs to a strip of N columns and Q records, which has room for
 /// them: records 1, 2, 3 by column then low, the free ones after them.
-pub fn put_runs(strip: &mut [u16], w: u16, r: u16, n: u16, columns: &[Vec<Stretch>]) {
+pub fn put_runs(strip: &mut [u16], w: u16, r: u16, n: u16, g: u16, columns: &[Vec<Stretch>]) {
     let n_words = usize::from(n);
-    let q = (strip.len() - 4 - n_words) / 4;
+    let q = (strip.len() - LEADING - n_words) / 4;
     strip.fill(0);
     strip[0] = w;
     strip[1] = r;
     strip[2] = n;
+    strip[4] = g;
     let mut number = 0;
     for (column, stretches) in columns.iter().enumerate() {
         for (place, &(low, high)) in stretches.iter().enumerate() {
             number += 1;
             if place == 0 {
-                strip[4 + column] = number;
+                strip[LEADING + column] = number;
             }
             let is_last = place + 1 == stretches.len();
             let next = if is_last { 0 } else { number + 1 };
@@ -196,10 +202,11 @@ pub fn ask_4(length: usize, n: u16) -> Result<(), Refusal> {
 
 /// "Opening makes all columns empty."
 ///
-/// "open 3, 4", by S-1 with 16 and 17 after 3
-pub fn open(w: u16, r: u16, n: u16, strip: &mut [u16]) -> Result<(), Refusal> {
+/// "open 3, 4", by S-1 with 16 and 17 after 3, by S-4 with 21 after these
+pub fn open(w: u16, r: u16, n: u16, g: u16, strip: &mut [u16]) -> Result<(), Refusal> {
     ask_limits(w, r, n)?;
+    ask_21(g)?;
     ask_4(strip.len(), n)?;
-    put_runs(strip, w, r, n, &vec![Vec::new(); usize::from(n)]);
+    put_runs(strip, w, r, n, g, &vec![Vec::new(); usize::from(n)]);
     Ok(())
 }

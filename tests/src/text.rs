@@ -3,8 +3,11 @@
 //!
 //! A text has a line `strip W R N`, then for each piece a line
 //! `piece MASK x,y x,y x,y ..`, or `path MASK NAME` with the name of a file that
-//! holds its outline as a path. `#` begins a comment. After a line `mm` lengths are
-//! millimetres, before it units of 1/8 mm.
+//! holds its outline as a path. Before the pieces there may be a line `gap 3.125`,
+//! always in millimetres. `#` begins a comment. After a line `mm` all other lengths
+//! are millimetres, before it units of 1/8 mm.
+//!
+//! A sheet has no place for a gap: the same line stands in front of it.
 
 use crate::figures::*;
 use crate::outline::Vertex;
@@ -18,14 +21,17 @@ const MOST_BYTES: usize = 262_144;
 const MOST_LINES: usize = 65_535;
 const UNITS_IN_MILLIMETRE: u64 = 8;
 
+/// The bytes of the line in front of a sheet, at most.
+const MOST_FRONT: usize = 16;
+
 /// What is wrong with a line.
 type Fault = &'static str;
 
 const VERTICES: Fault = "a piece has 3 to 64 vertices";
 const NUMBER: Fault = "a number is expected";
 
-/// The sheet of a text, or the line that program `sheet` prints to standard
-/// error.
+/// The sheet of a text with its gap in front of it, or the line that program
+/// `sheet` prints to standard error.
 pub fn sheet_of_text(text: &[u8]) -> Result<Vec<u8>, String> {
     let job = TextJob::read(text)?;
     let Figures {
@@ -43,7 +49,7 @@ pub fn sheet_of_text(text: &[u8]) -> Result<Vec<u8>, String> {
     ) {
         Ok(size) => {
             sheet.truncate(size as usize);
-            Ok(sheet)
+            Ok([gap_line(job.gap).as_bytes(), &sheet].concat())
         }
         Err(refusal) => Err(match job.line_of(refusal) {
             Some(line) => format!("{refusal} (line {line})"),
@@ -72,15 +78,37 @@ pub fn notes_on_text(text: &[u8]) -> String {
     notes
 }
 
+/// The line of a gap; no line of 0. An eighth is exact in floating point.
+fn gap_line(gap: u16) -> String {
+    match gap {
+        0 => String::new(),
+        gap => format!("gap {}\n", f64::from(gap) / 8.0),
+    }
+}
+
+/// The gap in front of a sheet, 0 without one, and the sheet. Any other first line
+/// is a part of the sheet.
+pub fn gap_and_sheet(input: &[u8]) -> (u16, &[u8]) {
+    let line = input.split_inclusive(|&byte| byte == b'\n').next();
+    let line = line.unwrap_or_default();
+    let mut rest = Rest(line);
+    let word = rest.take_while(|byte| !is_blank(byte));
+    match rest.gap() {
+        Ok(gap) if word == b"gap" && line.len() <= MOST_FRONT => (gap, &input[line.len()..]),
+        _ => (0, input),
+    }
+}
+
 /// A vertex in millimetres. An eighth is exact in floating point.
 fn in_millimetres(vertex: Vertex) -> String {
     format!("{},{}", vertex.0 as f64 / 8.0, vertex.1 as f64 / 8.0)
 }
 
-/// The text of a sheet in units, or that it is refused.
-pub fn text_of_sheet(sheet: &[u8]) -> String {
+/// The text of a sheet in units, with the gap in front of it, or that it is refused.
+pub fn text_of_sheet(input: &[u8]) -> String {
+    let (gap, sheet) = gap_and_sheet(input);
     match figures_and_pieces(sheet) {
-        Ok((figures, pieces)) => text_of_job(&figures, &pieces),
+        Ok((figures, pieces)) => text_of_job(&figures, gap, &pieces),
         Err(refusal) => format!("{refusal}\n"),
     }
 }
@@ -89,13 +117,14 @@ fn figures_and_pieces(sheet: &[u8]) -> Result<(Figures, Vec<Piece>), Refusal> {
     Ok((ask_head(sheet)?, pieces_of_sheet(sheet)?))
 }
 
-fn text_of_job(figures: &Figures, pieces: &[Piece]) -> String {
+fn text_of_job(figures: &Figures, gap: u16, pieces: &[Piece]) -> String {
     let Figures {
         width,
         resolution,
         columns,
     } = figures;
     let mut text = format!("strip {width} {resolution} {columns}\n");
+    text += &gap_line(gap);
     for Piece { outline, mask } in pieces {
         text += &format!("piece {mask}");
         for vertex in outline.chunks_exact(2) {
@@ -110,6 +139,7 @@ fn text_of_job(figures: &Figures, pieces: &[Piece]) -> String {
 struct TextJob {
     figures: Figures,
     strip_line: usize,
+    gap: u16,
     pieces: Vec<Piece>,
     piece_lines: Vec<usize>,
 }
@@ -133,6 +163,7 @@ impl TextJob {
         Ok(TextJob {
             figures,
             strip_line,
+            gap: reader.gap.unwrap_or(0),
             pieces: reader.pieces,
             piece_lines: reader.piece_lines,
         })
@@ -158,6 +189,7 @@ struct Reader {
     line: usize,
     millimetres: bool,
     strip: Option<(Figures, usize)>,
+    gap: Option<u16>,
     pieces: Vec<Piece>,
     piece_lines: Vec<usize>,
 }
@@ -179,12 +211,13 @@ impl Reader {
             b"strip" => self.read_strip(&mut rest),
             b"piece" => self.read_piece(&mut rest, |rest, mm| rest.outline(mm)),
             b"path" => self.read_piece(&mut rest, |rest, _| rest.outline_in_file()),
+            b"gap" => self.read_gap(&mut rest),
             b"mm" if rest.is_empty() => {
                 self.millimetres = true;
                 Ok(())
             }
             b"mm" => Err("nothing follows mm"),
-            _ => Err("a line begins with strip, piece, path or mm"),
+            _ => Err("a line begins with strip, gap, piece, path or mm"),
         }
     }
 
@@ -201,6 +234,17 @@ impl Reader {
             return Err("a strip has width, resolution and columns");
         }
         self.strip = Some((figures, self.line));
+        Ok(())
+    }
+
+    fn read_gap(&mut self, rest: &mut Rest) -> Result<(), Fault> {
+        if self.gap.is_some() {
+            return Err("there is one gap");
+        }
+        if !self.pieces.is_empty() {
+            return Err("the gap comes before the pieces");
+        }
+        self.gap = Some(rest.gap()?);
         Ok(())
     }
 
@@ -295,6 +339,15 @@ impl<'a> Rest<'a> {
         }
         let eighths = whole.saturating_mul(UNITS_IN_MILLIMETRE);
         in_16_bits(eighths.saturating_add(part / 125))
+    }
+
+    /// A gap, to the end of the line, in millimetres.
+    fn gap(&mut self) -> Result<u16, Fault> {
+        let gap = self.length(true)?;
+        if gap > MOST_GAP || !self.is_empty() {
+            return Err("a gap is one length from 0 to 50 mm");
+        }
+        Ok(gap)
     }
 
     /// x and y, with a comma and no blank between them.

@@ -103,10 +103,12 @@ fn cover_on_any_input() {
         let mut random = Random::new(seed);
         let outline = some_outline(&mut random);
         let (turn, r) = (any_turn(&mut random), any_resolution(&mut random));
+        let g = any_gap(&mut random, r);
         let length = random.index(600);
-        numbers[number(&check_cover(&outline, turn, r, length))] += 1;
+        let answer = check_cover_with_gap(&outline, turn, r, g, length);
+        numbers[number(&answer)] += 1;
     }
-    all_came_up(&numbers, &[0, 16, 7, 8, 9, 10, 11, 12]);
+    all_came_up(&numbers, &[0, 16, 21, 7, 8, 9, 10, 11, 12]);
 }
 
 #[test]
@@ -119,10 +121,11 @@ fn open_on_any_input() {
             0 => random.index(70_000),
             _ => strip_length(of.columns, random.index(200)),
         };
-        let answer = check_open(of.width, of.resolution, of.columns, length);
+        let g = any_gap(&mut random, of.resolution);
+        let answer = check_open_with_gap(of.width, of.resolution, of.columns, g, length);
         numbers[number(&answer)] += 1;
     }
-    all_came_up(&numbers, &[0, 3, 16, 17, 4]);
+    all_came_up(&numbers, &[0, 3, 16, 17, 21, 4]);
 }
 
 #[test]
@@ -171,12 +174,13 @@ fn read_and_lay_on_any_input() {
             _ => strip_length(n.into(), random.between(1, 40) as usize),
         };
         let lengths = [strip, random.index(40), random.index(200)];
-        laid[number(&check_lay(&sheet, lengths))] += 1;
+        let g = any_gap(&mut random, 2);
+        laid[number(&check_lay_with_gap(&sheet, g, lengths))] += 1;
         let text = reference::lay_text(&sheet);
         assert!(text.starts_with("strip ") || text.starts_with("job refused "));
     }
     all_came_up(&read, &[0, 1, 2, 3, 16, 17, 6, 7, 8, 9, 10, 11, 15]);
-    all_came_up(&laid, &[0, 1, 2, 3, 16, 17, 4, 6, 7, 8, 9, 10, 11, 15]);
+    all_came_up(&laid, &[0, 1, 2, 3, 16, 17, 21, 4, 6, 7, 8, 9, 10, 11, 15]);
 }
 
 #[test]
@@ -216,16 +220,18 @@ fn empty_buffers() {
     assert_eq!(check_lay(&[], [0, 0, 0]), Err(no(1, 0)));
 }
 
-/// `runs` answers nothing where R, turn or a coordinate is out of its limits.
+/// `runs` answers nothing where R, gap, turn or a coordinate is out of its limits.
 #[test]
 fn runs_out_of_limits() {
-    assert_eq!(reference::runs(&S, 0, 2), [(0, 0, 4), (1, 0, 4)]);
-    assert!(reference::runs(&S, 0, 0).is_empty());
-    assert!(reference::runs(&S, 0, 401).is_empty());
-    assert!(reference::runs(&S, 4, 2).is_empty());
-    assert!(reference::runs(&FAR, 0, 2).is_empty());
-    assert!(reference::runs(&[], 0, 2).is_empty());
-    assert!(reference::runs(&[5], 0, 2).is_empty());
+    assert_eq!(reference::runs(&S, 0, 2, 0), [(0, 0, 4), (1, 0, 4)]);
+    assert_eq!(reference::runs(&S, 0, 400, 400).len(), 2);
+    assert!(reference::runs(&S, 0, 0, 0).is_empty());
+    assert!(reference::runs(&S, 0, 401, 0).is_empty());
+    assert!(reference::runs(&S, 0, 2, 401).is_empty());
+    assert!(reference::runs(&S, 4, 2, 0).is_empty());
+    assert!(reference::runs(&FAR, 0, 2, 0).is_empty());
+    assert!(reference::runs(&[], 0, 2, 3).is_empty());
+    assert!(reference::runs(&[5], 0, 2, 3).is_empty());
 }
 
 #[test]

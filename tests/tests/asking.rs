@@ -134,6 +134,7 @@ fn any_small_strip(random: &mut Random, w: u16, n: u16) -> (StripFigures, Vec<u1
         w: random.word(1, w),
         r: random.word(1, 3),
         n: random.word(1, n),
+        g: random.word(0, 4).saturating_sub(1),
         q: random.between(1, 20) as usize,
     };
     let most = random.index(figures.q + 1);
@@ -146,7 +147,7 @@ fn any_small_strip(random: &mut Random, w: u16, n: u16) -> (StripFigures, Vec<u1
 #[test]
 fn commits_at_every_position() {
     let mut numbers = [0; NUMBERS];
-    for seed in 0..150 {
+    for seed in 0..220 {
         let mut random = Random::new(60_000 + seed);
         let (figures, strip) = any_small_strip(&mut random, 7, 5);
         let occupied = cells_of_strip(&strip);
@@ -262,8 +263,10 @@ impl Told {
 
     /// "No point may lie inside two pieces", now with one more.
     fn put(&mut self, outline: &[u16], position: Position) {
-        let cells = cells_of(outline, position.turn, self.figures.r.into());
+        let (r, g) = (self.figures.r.into(), self.figures.g.into());
+        let cells = cells_of(outline, position.turn, r, g);
         let cells = moved(&cells, position.column.into(), position.height.into());
+        let cells = on_strip(cells, self.figures);
         assert!(!cells.is_empty());
         assert!(self
             .pieces
@@ -289,7 +292,7 @@ fn lists_of_ask_commit_and_place() {
     for seed in 0..1_500 {
         let mut random = Random::new(80_000 + seed);
         let figures = small_strip(&mut random);
-        let mut strip = opened(figures.w, figures.r, figures.n, figures.q);
+        let mut strip = opened_as(figures);
         let mut list = MixedList::new(&mut random, 7);
         let mut told = Told {
             figures,

@@ -21,10 +21,10 @@ fn bytes(words: &[u16]) -> Vec<u8> {
 #[test]
 fn an_opened_strip() {
     let mut strip = bytes(&other_words(strip_length(10, 6)));
-    assert_eq!(open_bytes(300, 2, 10, &mut strip), Ok(()));
-    // 300 is 1 times 256 and 44.
-    assert_eq!(strip[..6], [44, 1, 2, 0, 10, 0]);
-    assert_eq!(strip, bytes(&opened(300, 2, 10, 6)));
+    assert_eq!(open_bytes(300, 2, 10, 400, &mut strip), Ok(()));
+    // 300 is 1 times 256 and 44, 400 is 1 times 256 and 144.
+    assert_eq!(strip[..10], [44, 1, 2, 0, 10, 0, 1, 0, 144, 1]);
+    assert_eq!(strip, bytes(&opened_with_gap(300, 2, 10, 400, 6)));
 }
 
 #[test]
@@ -42,7 +42,7 @@ fn three_squares() {
     let job = sheet(10, 2, 10, &[(&S, 1), (&S, 1), (&S, 1)]);
     let mut laid = bytes(&other_words(strip_length(10, 4)));
     let (mut output, mut work) = (bytes(&other_words(13)), bytes(&other_words(6)));
-    let answer = lay_bytes(&job, &mut laid, &mut output, &mut work);
+    let answer = lay_bytes(&job, 0, &mut laid, &mut output, &mut work);
     assert_eq!(answer, Ok(Totals { placed: 3, used: 4 }));
     assert_eq!(laid, strip);
     let entries = [[0, 0, 0, 0], [0, 0, 0, 4], [0, 0, 2, 0]].concat();
@@ -85,14 +85,17 @@ fn three_squares_in_two_steps() {
 fn refused() {
     let before = bytes(&other_words(strip_length(10, 4)));
     let mut strip = before.clone();
-    assert_eq!(open_bytes(10, 2, 0, &mut strip), Err(no(17, 0)));
+    assert_eq!(open_bytes(10, 2, 0, 0, &mut strip), Err(no(17, 0)));
+    assert_eq!(open_bytes(10, 2, 10, 401, &mut strip), Err(no(21, 0)));
     let mut work = bytes(&other_words(6));
     let answer = place_bytes(&mut strip, &bytes(&S), 1, &mut work);
     assert_eq!(answer, Err(no(5, 0)));
     assert_eq!(work, bytes(&[0; 6]));
     let (mut output, mut work) = (bytes(&other_words(3)), bytes(&other_words(6)));
     let job = sheet(10, 2, 10, &[(&S, 1)]);
-    let answer = lay_bytes(&job, &mut strip, &mut output, &mut work);
+    let answer = lay_bytes(&job, 401, &mut strip, &mut output, &mut work);
+    assert_eq!(answer, Err(no(21, 0)));
+    let answer = lay_bytes(&job, 400, &mut strip, &mut output, &mut work);
     assert_eq!(answer, Err(no(15, 0)));
     assert_eq!(strip, before);
     assert_eq!(output, bytes(&other_words(3)));
@@ -105,10 +108,10 @@ fn an_odd_byte_is_no_word() {
     let mut strip = bytes(&other_words(strip_length(10, 4)));
     let whole = strip.len() - 1;
     assert_eq!(
-        open_bytes(10, 2, 10, &mut strip[..whole - 1]),
+        open_bytes(10, 2, 10, 0, &mut strip[..whole - 1]),
         Err(no(4, 0))
     );
-    assert_eq!(open_bytes(10, 2, 10, &mut strip[..whole]), Ok(()));
+    assert_eq!(open_bytes(10, 2, 10, 0, &mut strip[..whole]), Ok(()));
     let (square, mut work) = (bytes(&S), bytes(&other_words(6)));
     let mut place = |outline: &[u8], work: &mut [u8]| {
         place_bytes(&mut strip, outline, 1, work).map_err(|refusal| refusal.number)

@@ -214,7 +214,8 @@ fn changed_strips_are_of_both_fates() {
 /// A strip with one damage mended is well formed: nothing else was wrong.
 #[test]
 fn damages_of_the_leading_words_are_the_only_ones() {
-    let mends: [(Damage, usize, u16); 4] = [
+    let mends: [(Damage, usize, u16); 5] = [
+        (Damage::GapOver, 4, 400),
         (Damage::WidthZero, 0, 1),
         (Damage::WidthOver, 0, 16_000),
         (Damage::ResolutionZero, 1, 1),
@@ -228,6 +229,56 @@ fn damages_of_the_leading_words_are_the_only_ones() {
             assert!(well_formed(&strip), "{damage:?} {seed}");
         }
     }
+}
+
+/// The form before S-4 lacks the gap and nothing else.
+#[test]
+fn strips_without_the_gap_lack_only_it() {
+    for seed in 0..50 {
+        let mut random = Random::new(seed);
+        let mut strip = damaged_strip(&mut random, Damage::NoGapWord);
+        assert!(!well_formed(&strip), "{seed}");
+        strip.insert(4, 0);
+        assert!(well_formed(&strip), "{seed}");
+    }
+}
+
+/// 0, 1, 2, R − 1, R, R + 1 and 400 all come, and gaps over 400 from `any_gap` alone.
+#[test]
+fn gaps_of_every_kind() {
+    for (r, random) in (1..=400).zip((0..).map(Random::new)) {
+        let mut random = random;
+        let mut came = std::collections::BTreeSet::new();
+        for _ in 0..400 {
+            let g = sound_gap(&mut random, r);
+            assert!(g <= 400 && small_gap(&mut random, r) <= 400);
+            came.insert(g);
+        }
+        for g in [0, 1, 2, r - 1, r, (r + 1).min(400), 400] {
+            assert!(came.contains(&g), "{r} {g}");
+        }
+        let over = (0..400).filter(|_| any_gap(&mut random, r) > 400).count();
+        assert!((40..200).contains(&over), "{over}");
+    }
+}
+
+/// Words changed at random change the gap of some strips, to another in its limits and
+/// to one over them, and nothing else.
+#[test]
+fn changed_strips_have_other_gaps() {
+    let mut gaps = [0; 2];
+    for seed in 0..2_000 {
+        let mut random = Random::new(seed);
+        let strip = sound_strip(&mut random);
+        let mut changed = strip.clone();
+        change_words(&mut random, &mut changed);
+        let others_stay = changed[..4] == strip[..4] && changed[5..] == strip[5..];
+        if others_stay && changed[4] != strip[4] {
+            gaps[usize::from(changed[4] > 400)] += 1;
+            assert_eq!(well_formed(&changed), changed[4] <= 400);
+        }
+    }
+    assert!(gaps.iter().all(|&times| times > 30), "{gaps:?}");
 }
 
 #[test]
@@ -336,7 +387,7 @@ fn commits_are_of_their_kind() {
             if kind != CommitKind::Anywhere {
                 assert_eq!(position.turn > 3, kind == CommitKind::WrongTurn);
             }
-            let piece = turned_piece(&outline, position.turn % 4, board.r);
+            let piece = turned_piece(&outline, position.turn % 4, board.r, board.g);
             let (c, y) = (i64::from(position.column), i64::from(position.height));
             let on_strip = |spot| is_on_strip(&board, &piece, spot);
             let is_free = on_strip((c, y)) && is_free_plain(&board, &piece, (c, y));
@@ -405,7 +456,7 @@ fn mixed_lists_are_mixed() {
                     let place = found.iter().rev().position(is_at);
                     answers[place.map_or(2, |place| place.min(1))] += 1;
                     if is_sound(&call.outline, 15) && call.position.turn <= 3 {
-                        let runs = reference::runs(&call.outline, call.position.turn, 2);
+                        let runs = reference::runs(&call.outline, call.position.turn, 2, 0);
                         works[(call.work + 1).saturating_sub(3 * runs.len()).min(2)] += 1;
                     }
                 }

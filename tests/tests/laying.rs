@@ -2,7 +2,7 @@
 
 mod common;
 use common::*;
-use reference::generate::{job, sound_sheet, Random};
+use reference::generate::{job, small_gap, sound_sheet, Random};
 use reference::outline::{extent, turned, vertices};
 use reference::{lay_text, same_strip, Refusal};
 
@@ -26,7 +26,8 @@ fn lay_is_open_and_place_in_chain_order() {
             300
         };
         let longer = random.index(5);
-        let mut strip = opened(w, r, n, q);
+        let g = small_gap(&mut random, r);
+        let mut strip = opened_with_gap(w, r, n, g, q);
         let mut entries = Vec::new();
         let (mut placed, mut used) = (0, 0);
         for piece in &job.pieces {
@@ -46,14 +47,15 @@ fn lay_is_open_and_place_in_chain_order() {
             fates[usize::from(entries[entries.len() - 4])] += 1;
         }
         let lengths = [strip.len(), entries.len() + longer, work];
-        let laid = check_lay(&job.sheet(), lengths).unwrap();
+        let laid = check_lay_with_gap(&job.sheet(), g, lengths).unwrap();
         assert_eq!(laid.output[..entries.len()], entries);
         let before = other_words(lengths[1]);
         assert_eq!(laid.output[entries.len()..], before[entries.len()..]);
         assert_eq!((laid.totals.placed, laid.totals.used), (placed, used));
         assert!(same_strip(&laid.strip, &strip));
         if !entries.is_empty() {
-            let short = check_lay(&job.sheet(), [lengths[0], entries.len() - 1, work]);
+            let short = [lengths[0], entries.len() - 1, work];
+            let short = check_lay_with_gap(&job.sheet(), g, short);
             assert_eq!(short, Err(no(15, 0)));
         }
     }
@@ -124,7 +126,7 @@ fn the_strip_lent_to_lay_need_not_be_well_formed() {
     let mut strip = vec![65_535; strip_length(10, 4)];
     let job = sheet(10, 2, 10, &[(&S, 1)]);
     let (mut output, mut work) = ([9; 5], [9; 7]);
-    let answer = reference::lay(&job, &mut strip, &mut output, &mut work);
+    let answer = reference::lay(&job, 0, &mut strip, &mut output, &mut work);
     assert!(answer.is_ok());
     assert_eq!(output, [0, 0, 0, 0, 9]);
     assert_eq!(work, [0; 7]);

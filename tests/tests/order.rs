@@ -1,8 +1,8 @@
 //! Where several questions say no, the first in the call's order answers.
 //!
 //! "Order: rising, 7 to 11 piece by piece", but S-1: 16 and 17 "both directly
-//! after 3 wherever 3 is asked", S-2: 18 in a commit "asked instead of 13", and S-3:
-//! "the shape of the whole path first".
+//! after 3 wherever 3 is asked", S-2: 18 in a commit "asked instead of 13", S-3:
+//! "the shape of the whole path first", and S-4: 21 "directly after 16 and 17".
 
 mod common;
 use common::*;
@@ -19,6 +19,9 @@ fn cover_in_order() {
     let odd = &FAR[..5];
     assert_eq!(check_cover(odd, 4, 0, 0), Err(no(16, 0)));
     assert_eq!(check_cover(odd, 4, 401, 0), Err(no(16, 0)));
+    assert_eq!(check_cover_with_gap(odd, 4, 0, 401, 0), Err(no(16, 0)));
+    assert_eq!(check_cover_with_gap(odd, 4, 2, 401, 0), Err(no(21, 0)));
+    assert_eq!(check_cover_with_gap(&S, 0, 2, 401, 90), Err(no(21, 0)));
     assert_eq!(check_cover(odd, 4, 2, 0), Err(no(7, 1)));
     assert_eq!(check_cover(&[0, 0, 16_001], 0, 2, 9), Err(no(7, 1)));
     assert_eq!(check_cover(&CROSSED_FAR, 4, 2, 0), Err(no(8, 1)));
@@ -29,6 +32,8 @@ fn cover_in_order() {
     assert_eq!(check_cover(&CROSSED_TWICE, 1, 2, 0), Err(no(11, 1)));
     assert_eq!(check_cover(&FLAT, 0, 2, 0), Err(no(11, 1)));
     assert_eq!(check_cover(&S, 0, 2, 0), Err(no(12, 1)));
+    // 11 is asked of the outline's inside, which a gap does not make.
+    assert_eq!(check_cover_with_gap(&FLAT, 0, 2, 9, 0), Err(no(11, 1)));
 }
 
 #[test]
@@ -37,11 +42,11 @@ fn open_in_order() {
     assert_eq!(check_open(10, 0, 0, 0), Err(no(16, 0)));
     assert_eq!(check_open(10, 2, 0, 0), Err(no(17, 0)));
     assert_eq!(check_open(10, 2, 10, 0), Err(no(4, 0)));
-    assert_eq!(check_open(10, 2, 4_097, 4 + 4_096 + 4), Err(no(17, 0)));
+    assert_eq!(check_open(10, 2, 4_097, 5 + 4_096 + 4), Err(no(17, 0)));
 }
 
 /// W, R and N, each below its limits, in them or above, in every combination,
-/// where the question after 17 has to say no too: 4 or 6.
+/// where the question after 17 has to say no too: 4 or 6, and 21 before 4.
 #[test]
 fn limits_in_order() {
     for w in [0, 10, 16_001] {
@@ -59,6 +64,10 @@ fn limits_in_order() {
                 assert_eq!(check_read(&plan.bytes(), 0), Err(refused(6)));
                 assert_eq!(check_write((w, r, n), &[], 0), Err(refused(6)));
                 assert_eq!(check_lay(&plan.bytes(), [0, 0, 0]), Err(refused(4)));
+                let over = check_open_with_gap(w, r, n, 401, 0);
+                assert_eq!(over, Err(refused(21)));
+                let over = check_lay_with_gap(&plan.bytes(), 401, [0, 0, 0]);
+                assert_eq!(over.map(|_| ()), Err(refused(21)));
             }
         }
     }
@@ -166,7 +175,7 @@ fn seven_to_eleven_piece_by_piece() {
             let sheet = sheet(10, 2, 10, &of);
             let expected = no(first.2, 2);
             assert_eq!(check_read(&sheet, 0), Err(expected));
-            assert_eq!(check_lay(&sheet, [18, 0, 0]), Err(expected));
+            assert_eq!(check_lay(&sheet, [19, 0, 0]), Err(expected));
             assert_eq!(check_write((10, 2, 10), &list(&of), 0), Err(expected));
         }
     }
@@ -181,7 +190,7 @@ fn eight_before_nine_before_ten() {
         let sheet = sheet(10, 2, 10, &of);
         assert_eq!(check_read(&sheet, 90), Err(no(number, 1)));
         assert_eq!(check_write((10, 2, 10), &list(&of), 90), Err(no(number, 1)));
-        assert_eq!(check_lay(&sheet, [18, 90, 90]), Err(no(number, 1)));
+        assert_eq!(check_lay(&sheet, [19, 90, 90]), Err(no(number, 1)));
         let mut strip = opened(10, 2, 10, 1);
         assert_eq!(check_place(&mut strip, outline, 0, 90), Err(no(number, 1)));
     }
@@ -260,17 +269,22 @@ fn lay_in_order() {
     assert_eq!(check_lay(&plan.bytes(), [0, 0, 0]), Err(no(16, 0)));
     plan.figures.resolution = 2;
     assert_eq!(check_lay(&plan.bytes(), [0, 0, 0]), Err(no(17, 0)));
+    let over = |bytes: &[u8]| check_lay_with_gap(bytes, 401, [0, 0, 0]).map(|_| ());
+    assert_eq!(over(&plan.bytes()[..15]), Err(no(1, 0)));
+    assert_eq!(over(&plan.bytes()[..17]), Err(no(2, 0)));
+    assert_eq!(over(&plan.bytes()), Err(no(17, 0)));
     plan.figures.columns = 10;
+    assert_eq!(over(&plan.bytes()), Err(no(21, 0)));
     assert_eq!(check_lay(&plan.bytes(), [0, 0, 0]), Err(no(4, 0)));
-    assert_eq!(check_lay(&plan.bytes(), [18, 0, 0]), Err(no(6, 0)));
+    assert_eq!(check_lay(&plan.bytes(), [19, 0, 0]), Err(no(6, 0)));
     plan.first_piece = 1;
     assert_eq!(check_lay(&plan.bytes(), [0, 0, 0]), Err(no(4, 0)));
-    assert_eq!(check_lay(&plan.bytes(), [18, 0, 0]), Err(no(11, 2)));
+    assert_eq!(check_lay(&plan.bytes(), [19, 0, 0]), Err(no(11, 2)));
     // 15 of the whole job before 12 to 14 of any piece.
     let job = sheet(10, 2, 10, &[(&S, 1)]);
-    assert_eq!(check_lay(&job, [18, 3, 0]), Err(no(15, 0)));
-    let laid = check_lay(&job, [18, 4, 0]).unwrap();
+    assert_eq!(check_lay(&job, [19, 3, 0]), Err(no(15, 0)));
+    let laid = check_lay(&job, [19, 4, 0]).unwrap();
     assert_eq!(laid.output, [12, 0, 0, 0]);
-    let laid = check_lay(&job, [18, 4, 6]).unwrap();
+    let laid = check_lay(&job, [19, 4, 6]).unwrap();
     assert_eq!(laid.output, [14, 0, 0, 0]);
 }

@@ -71,6 +71,24 @@ fn a_stretch_drawn_twice() {
     assert!(!picture.contains("<path class='twice'") && !picture.contains("dashed"));
 }
 
+/// A gap is said and shaded, around the placed pieces alone; without one nothing is.
+#[test]
+fn a_gap() {
+    let large = rectangle(11, 11);
+    let sheet = sheet(10, 2, 10, &[(&S, 1), (&large, 15)]);
+    let plain = draw(&sheet);
+    assert!(!plain.contains("gap") && !plain.contains("clip"), "{plain}");
+    let picture = draw(&[b"gap 0.375\n", &sheet[..]].concat());
+    let has = |words: &str| assert!(picture.contains(words), "{words} in\n{picture}");
+    has("<text y='7.80em'>shaded: gap of 0.375 mm</text>\n<text x='0em' y='9.20em'>2 refused 13</text>");
+    has("<clipPath id='strip'><rect y='-1000' width='");
+    has(" stroke-width='600' d='M 0,-0 400,-0 400,-400 0,-400Z'/>\n<polygon");
+    assert_eq!(picture.matches("<path clip-path='url(#strip)'").count(), 1);
+    // A line that says no gap.
+    let picture = draw(&[b"gap 51\n", &sheet[..]].concat());
+    assert!(picture.contains(">job refused 1 0</text>"), "{picture}");
+}
+
 #[test]
 fn a_refused_job() {
     let picture = draw(&sheet(10, 2, 10, &[(&S, 1), (&CROSSED, 1)]));

@@ -19,7 +19,7 @@ fn lists_of_place_calls() {
     for seed in 0..700 {
         let mut random = Random::new(10_000 + seed);
         let figures = small_strip(&mut random);
-        let mut strip = opened(figures.w, figures.r, figures.n, figures.q);
+        let mut strip = opened_as(figures);
         let mut placed: Vec<Cells> = Vec::new();
         let mut occupied = Cells::new();
         let count = random.between(1, 12) as usize;
@@ -35,8 +35,10 @@ fn lists_of_place_calls() {
                 assert_eq!(answer.map_err(|refusal| refusal.number), expected);
             }
             if let Ok(position) = answer {
-                let cells = cells_of(&outline, position.turn, figures.r.into());
+                let (r, g) = (figures.r.into(), figures.g.into());
+                let cells = cells_of(&outline, position.turn, r, g);
                 let cells = moved(&cells, position.column.into(), position.height.into());
+                let cells = on_strip(cells, figures);
                 assert!(!cells.is_empty());
                 assert!(placed.iter().all(|earlier| earlier.is_disjoint(&cells)));
                 occupied.extend(&cells);
@@ -71,8 +73,10 @@ fn single_calls_on_any_strip() {
         let expected = expected(&occupied, figures, &outline, mask, 900);
         assert_eq!(answer.map_err(|refusal| refusal.number), expected);
         if let Ok(position) = answer {
-            let cells = cells_of(&outline, position.turn, figures.r.into());
+            let (r, g) = (figures.r.into(), figures.g.into());
+            let cells = cells_of(&outline, position.turn, r, g);
             let cells = moved(&cells, position.column.into(), position.height.into());
+            let cells = on_strip(cells, figures);
             assert_eq!(cells_of_strip(&strip), &occupied | &cells);
         }
     }
@@ -90,6 +94,7 @@ fn forms_of_the_search_agree() {
             w: random.word(10, 80),
             r: random.word(1, 6),
             n: random.word(5, 60),
+            g: random.word(0, 20).saturating_sub(8),
             q: 600,
         };
         let runs = random_runs(&mut random, figures.w, figures.n, 400);
@@ -98,7 +103,7 @@ fn forms_of_the_search_agree() {
         let size = random.word(3, 30);
         let outline = sound_outline(&mut random, 15, size);
         let pieces: Vec<_> = (0..4)
-            .map(|turn| turned_piece(&outline, turn, board.r))
+            .map(|turn| turned_piece(&outline, turn, board.r, board.g))
             .collect();
         for piece in &pieces {
             let quick = least_free(&board, piece);
@@ -119,7 +124,8 @@ fn records_exactly_enough() {
         let runs = random_runs(&mut random, w, n, 12);
         let before: usize = runs.iter().map(Vec::len).sum();
         let outline = sound_outline(&mut random, 15, 5);
-        let roomy = StripFigures { w, r, n, q: 200 };
+        let (g, q) = (random.word(0, 4), 400);
+        let roomy = StripFigures { w, r, n, g, q };
         let mut strip = strip_with(&mut random, roomy, &runs);
         let Ok(position) = check_place(&mut strip, &outline, 15, 900) else {
             continue;
@@ -146,13 +152,14 @@ fn work_exactly_enough() {
     for seed in 0..500 {
         let mut random = Random::new(50_000 + seed);
         let (mask, r) = (sound_mask(&mut random), random.word(1, 4));
+        let g = random.word(0, 5);
         let outline = sound_outline(&mut random, mask, 8);
         let most_runs = (0..4)
             .filter(|turn| mask & (1 << turn) != 0)
-            .map(|turn| count_runs(&cells_of(&outline, turn, r.into())))
+            .map(|turn| count_runs(&cells_of(&outline, turn, r.into(), g.into())))
             .max()
             .unwrap();
-        let mut strip = opened(20, r, 20, 100);
+        let mut strip = opened_with_gap(20, r, 20, g, 100);
         let short = check_place(&mut strip, &outline, mask, 3 * most_runs - 1);
         assert_eq!(short, Err(no(12, 1)));
         assert!(check_place(&mut strip, &outline, mask, 3 * most_runs).is_ok());

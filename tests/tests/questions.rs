@@ -8,11 +8,12 @@
 //! directly after 3 wherever 3 is asked." By S-2 ask asks what place does, and
 //! commit "what place asks with that turn alone allowed", with 18 "when a commit's
 //! position is off the strip or not free, asked instead of 13, which no commit
-//! answers".
+//! answers". S-4: "Cover and lay take g as well", and open; "21 when g is over 400,
+//! directly after 16 and 17".
 //!
 //! The ordinal is "0 for questions 1 to 6 and 15, for the size in write [...],
 //! else the piece's place in chain or list, 1 where one outline is lent". For 16,
-//! 17 and 18 it is 0: "0 [...] for each number above 15 unless its request gives an
+//! 17, 18 and 21 it is 0: "0 [...] for each number above 15 unless its request gives an
 //! ordinal".
 
 mod common;
@@ -33,6 +34,9 @@ const OUT_OF_LIMITS: [((u16, u16, u16), u16); 9] = [
     ((10, 2, 4_097), 17),
     ((10, 2, 65_535), 17),
 ];
+
+/// Gaps out of their limits.
+const OVER_400: [u16; 5] = [401, 402, 512, 32_768, 65_535];
 
 /// Outlines of a wrong length: "an even length of 6 to 128 words".
 fn wrong_lengths() -> Vec<Vec<u16>> {
@@ -55,6 +59,15 @@ fn cover_16() {
     assert_eq!(check_cover(&S, 0, 65_535, 90), Err(no(16, 0)));
     assert_eq!(check_cover(&S, 0, 400, 90), Ok(vec![[0, 0, 4]]));
     assert_eq!(check_cover(&S, 0, 1, 90).unwrap().len(), 4);
+}
+
+#[test]
+fn cover_21() {
+    for g in OVER_400 {
+        assert_eq!(check_cover_with_gap(&S, 0, 2, g, 90), Err(no(21, 0)));
+    }
+    let runs = check_cover_with_gap(&S, 0, 400, 400, 90);
+    assert_eq!(runs, Ok(vec![[0, 0, 404], [1, 0, 404]]));
 }
 
 #[test]
@@ -126,8 +139,27 @@ fn open_3_16_17() {
 }
 
 #[test]
+fn open_21() {
+    for (w, r, n) in IN_LIMITS {
+        for g in OVER_400 {
+            let answer = check_open_with_gap(w, r, n, g, strip_length(n, 6));
+            assert_eq!(answer, Err(no(21, 0)));
+        }
+        for g in [0, 1, 399, 400] {
+            let strip = check_open_with_gap(w, r, n, g, strip_length(n, 6)).unwrap();
+            assert_eq!(strip[4], g);
+        }
+    }
+}
+
+#[test]
 fn open_4() {
-    for length in [0, 1, 3, 4, 13, 14, 15, 16, 17, 19, 14 + 64_001, 14 + 64_004] {
+    for length in [0, 1, 4, 5, 14, 15, 16, 17, 18, 20, 15 + 64_001, 15 + 64_004] {
+        assert_eq!(check_open(10, 2, 10, length), Err(no(4, 0)), "{length}");
+    }
+    // The form before S-4, of four leading words.
+    for q in [1, 2, 4_000, 16_000] {
+        let length = 4 + 10 + 4 * q;
         assert_eq!(check_open(10, 2, 10, length), Err(no(4, 0)), "{length}");
     }
     for q in [1, 2, 4_000, 16_000] {
@@ -140,11 +172,28 @@ fn open_4() {
 #[test]
 fn place_5() {
     let mut strip = opened(10, 2, 10, 6);
-    strip[4] = 7;
+    strip[5] = 7;
     assert_eq!(check_place(&mut strip, &S, 1, 90), Err(no(5, 0)));
     assert_eq!(check_place(&mut [], &S, 1, 90), Err(no(5, 0)));
-    strip[4] = 0;
+    strip[5] = 0;
     assert_eq!(check_place(&mut strip, &S, 1, 90), Ok(at(0, 0, 0)));
+}
+
+/// "A strip is opened with a gap g of 0 to 400 units": a lent one with another is
+/// ill formed, in each call that is lent one.
+#[test]
+fn five_for_a_gap_over_400() {
+    let mut strip = opened(10, 2, 10, 6);
+    for g in OVER_400 {
+        strip[4] = g;
+        assert_eq!(check_place(&mut strip, &S, 1, 90), Err(no(5, 0)));
+        assert_eq!(check_ask(&strip, &S, 1, 90), Err(no(5, 0)));
+        assert_eq!(check_commit(&mut strip, &S, at(0, 0, 0), 90), Err(no(5, 0)));
+    }
+    strip[4] = 400;
+    // 202 columns with a run, five of which are on the strip.
+    assert_eq!(check_place(&mut strip, &S, 1, 605), Err(no(12, 1)));
+    assert_eq!(check_place(&mut strip, &S, 1, 606), Err(no(14, 1)));
 }
 
 #[test]
@@ -237,7 +286,7 @@ fn place_14() {
 fn ask_5_and_7_to_14() {
     let strip = opened(10, 2, 10, 2);
     let mut bad = strip.clone();
-    bad[4] = 3;
+    bad[5] = 3;
     assert_eq!(check_ask(&bad, &S, 1, 6), Err(no(5, 0)));
     assert_eq!(check_ask(&[], &S, 1, 6), Err(no(5, 0)));
     assert_eq!(check_ask(&strip, &S, 1, 6), Ok(at(0, 0, 0)));
@@ -262,10 +311,10 @@ fn ask_5_and_7_to_14() {
 #[test]
 fn commit_5() {
     let mut strip = opened(10, 2, 10, 6);
-    strip[4] = 7;
+    strip[5] = 7;
     assert_eq!(check_commit(&mut strip, &S, at(0, 0, 0), 90), Err(no(5, 0)));
     assert_eq!(check_commit(&mut [], &S, at(0, 0, 0), 90), Err(no(5, 0)));
-    strip[4] = 0;
+    strip[5] = 0;
     assert_eq!(check_commit(&mut strip, &S, at(0, 0, 0), 90), Ok(()));
 }
 
@@ -700,7 +749,7 @@ fn write_15() {
 // ----------------------------------------------------------------------- lay
 
 /// Buffers with room for everything, for N 10.
-const ROOM: [usize; 3] = [4 + 10 + 4 * 100, 900, 9_000];
+const ROOM: [usize; 3] = [5 + 10 + 4 * 100, 900, 9_000];
 
 #[test]
 fn lay_1() {
@@ -730,10 +779,22 @@ fn lay_3_16_17() {
     }
 }
 
+/// In the sheet's limits, whatever the strip.
+#[test]
+fn lay_21() {
+    let good = sheet(10, 2, 10, &[(&S, 1)]);
+    for g in OVER_400 {
+        assert_eq!(check_lay_with_gap(&good, g, ROOM), Err(no(21, 0)));
+    }
+    for g in [0, 1, 399, 400] {
+        assert!(check_lay_with_gap(&good, g, ROOM).is_ok());
+    }
+}
+
 #[test]
 fn lay_4() {
     let good = sheet(10, 2, 10, &[(&S, 1)]);
-    for length in [0, 3, 13, 14, 15, 17, 19, 14 + 64_004] {
+    for length in [0, 4, 14, 15, 16, 18, 20, 15 + 64_004] {
         assert_eq!(check_lay(&good, [length, 4, 6]), Err(no(4, 0)), "{length}");
     }
     assert!(check_lay(&good, [strip_length(10, 2), 4, 6]).is_ok());

@@ -237,7 +237,7 @@ fn b9_runs_after_joining() {
 #[test]
 fn b11_some_q() {
     for n in [1, 10, 4_096] {
-        let least = 4 + usize::from(n);
+        let least = 5 + usize::from(n);
         assert_eq!(check_open(10, 2, n, least), Err(no(4, 0)));
         assert!(check_open(10, 2, n, least + 4).is_ok());
         assert!(check_open(10, 2, n, least + 64_000).is_ok());
@@ -257,6 +257,8 @@ fn b12_place_answers_5() {
         (2, 0),
         (2, 4_097),
         (2, 11),
+        (4, 401),
+        (4, 65_535),
     ] {
         let mut strip = good.clone();
         strip[place] = word;
@@ -335,7 +337,7 @@ fn c4_last_column_not_right_edge() {
 
 // --------------------------------------------------------------------- strip
 
-/// 68,100 words: 16,000 records all in use, the last at word 68,096.
+/// 68,101 words: 16,000 records all in use, the last at word 68,097.
 #[test]
 fn d1_the_largest_strip() {
     let runs: &[(u16, u16)] = &[(0, 1), (2, 3), (4, 5), (6, 7)];
@@ -343,7 +345,7 @@ fn d1_the_largest_strip() {
         .map(|column| if column < 3_712 { runs } else { &runs[..3] })
         .collect();
     let mut strip = strip_of(16, 1, 16_000, &columns);
-    assert_eq!(strip.len(), 68_100);
+    assert_eq!(strip.len(), 68_101);
     // The unit square goes between the first two runs of column 0.
     let unit = rectangle(1, 1);
     assert_eq!(check_place(&mut strip, &unit, 1, 3), Ok(at(0, 0, 1)));
@@ -363,7 +365,7 @@ fn d1_the_largest_strip() {
 /// Touching runs are ill formed; the first run may begin at 0.
 #[test]
 fn d4_touching_runs_are_ill_formed() {
-    let strip = |low| vec![10, 2, 1, 0, 1, 0, 0, 4, 2, 0, low, 8, 0];
+    let strip = |low| vec![10, 2, 1, 0, 0, 1, 0, 0, 4, 2, 0, low, 8, 0];
     assert_eq!(check_place(&mut strip(4), &S, 1, 90), Err(no(5, 0)));
     assert_eq!(check_place(&mut strip(3), &S, 1, 90), Err(no(5, 0)));
     // Well formed: S has no room in one column of width 2.
@@ -420,13 +422,13 @@ fn f1_odd_sheets() {
     let mut odd = sheet(10, 2, 10, &[(&S, 1)]);
     odd.push(0);
     assert_eq!(check_read(&odd, 90), Err(no(2, 0)));
-    assert_eq!(check_lay(&odd, [18, 4, 6]), Err(no(2, 0)));
-    let (mut strip, mut output, mut work) = ([7; 36], [7; 8], [7; 12]);
-    let answer = lay_bytes(&odd, &mut strip, &mut output, &mut work);
+    assert_eq!(check_lay(&odd, [19, 4, 6]), Err(no(2, 0)));
+    let (mut strip, mut output, mut work) = ([7; 38], [7; 8], [7; 12]);
+    let answer = lay_bytes(&odd, 0, &mut strip, &mut output, &mut work);
     assert_eq!(answer, Err(no(2, 0)));
     assert_eq!(work, [0; 12]);
     assert_eq!(lay_text(&odd), "job refused 2 0\n");
-    let answer = lay_bytes(&odd[..46], &mut strip, &mut output, &mut work);
+    let answer = lay_bytes(&odd[..46], 0, &mut strip, &mut output, &mut work);
     assert!(answer.is_ok());
 }
 
@@ -435,7 +437,7 @@ fn f1_odd_sheets() {
 fn f2_odd_last_bytes() {
     let length = 2 * strip_length(10, 6);
     let mut strip = vec![7; length + 1];
-    assert_eq!(open_bytes(10, 2, 10, &mut strip), Ok(()));
+    assert_eq!(open_bytes(10, 2, 10, 0, &mut strip), Ok(()));
     assert_eq!(strip[..8], [10, 0, 2, 0, 10, 0, strip[6], 0]);
     assert_eq!(strip[length], 7);
     // S as bytes, with an odd byte more.
@@ -460,17 +462,17 @@ fn f2_odd_last_bytes() {
     // Two words and a half are no room for an entry.
     let job = sheet(10, 2, 10, &[(&S, 1)]);
     let mut output = [7; 7];
-    let answer = lay_bytes(&job, &mut strip, &mut output, &mut work);
+    let answer = lay_bytes(&job, 0, &mut strip, &mut output, &mut work);
     assert_eq!(answer, Err(no(15, 0)));
     assert_eq!(output, [7; 7]);
     let mut output = [7; 9];
-    let answer = lay_bytes(&job, &mut strip, &mut output, &mut work);
+    let answer = lay_bytes(&job, 0, &mut strip, &mut output, &mut work);
     assert!(answer.is_ok());
     assert_eq!(output, [0, 0, 0, 0, 0, 0, 0, 0, 7]);
     assert_eq!(strip[length], 7);
     assert_eq!(work[12], 7);
     // A strip one byte short of its last word.
-    let answer = open_bytes(10, 2, 10, &mut strip[..length - 1]);
+    let answer = open_bytes(10, 2, 10, 0, &mut strip[..length - 1]);
     assert_eq!(answer, Err(no(4, 0)));
 }
 
@@ -481,7 +483,7 @@ fn f4_the_work_buffer_is_zero() {
     assert!(reference::place(&mut [], &S, 1, &mut work).is_err());
     assert_eq!(work, [0; 100], "refused with 5");
     let mut work = [9; 100];
-    assert!(reference::lay(&[], &mut [], &mut [], &mut work).is_err());
+    assert!(reference::lay(&[], 0, &mut [], &mut [], &mut work).is_err());
     assert_eq!(work, [0; 100], "refused with 1");
     let mut work = [9; 5];
     let mut strip = opened(10, 2, 10, 6);

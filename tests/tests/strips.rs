@@ -5,9 +5,9 @@ use common::*;
 use reference::generate::{random_runs, strip_with, Damage, Random, StripFigures};
 use reference::{same_strip, strip_runs, well_formed};
 
-/// W 10, R 2, N 2, Q 3: runs 0–4 and 6–8 in column 0, record 3 free.
-const SMALL: [u16; 18] = [
-    10, 2, 2, 3, // W, R, N, first free record
+/// W 10, R 2, N 2, gap 1, Q 3: runs 0–4 and 6–8 in column 0, record 3 free.
+const SMALL: [u16; 19] = [
+    10, 2, 2, 3, 1, // W, R, N, first free record, gap
     1, 0, // each column's first record
     0, 0, 4, 2, // column, low, high, next
     0, 6, 8, 0, //
@@ -16,11 +16,12 @@ const SMALL: [u16; 18] = [
 
 /// For each word of SMALL, the values it can have in a well-formed strip while
 /// the others stay.
-const VALUES: [std::ops::RangeInclusive<u16>; 18] = [
+const VALUES: [std::ops::RangeInclusive<u16>; 19] = [
     8..=16_000, // W is at least the greatest high
     1..=400,    // R
     2..=2,      // N
     3..=3,      // first free
+    0..=400,    // gap
     1..=1,      // column 0
     0..=0,      // column 1
     0..=0,      // record 1: column
@@ -54,7 +55,7 @@ fn one_word_changed_in_every_way() {
 
 #[test]
 fn lengths() {
-    for length in 0..18 {
+    for length in 0..19 {
         assert!(!well_formed(&SMALL[..length]), "{length}");
     }
     for longer in 1..=20 {
@@ -64,18 +65,21 @@ fn lengths() {
     // A fourth record in the free chain.
     let mut strip = [&SMALL[..], &[2, 0, 0, 0]].concat();
     assert!(!well_formed(&strip), "in no chain");
-    strip[17] = 4;
+    strip[18] = 4;
     assert!(well_formed(&strip));
     // Q 16,000 and 16,001, all free, in a chain.
     for (q, expected) in [(16_000, true), (16_001, false)] {
-        let mut strip = vec![10, 2, 1, 1, 0];
+        let mut strip = vec![10, 2, 1, 1, 400, 0];
         for number in 1..=q {
             strip.extend([1, 0, 0, if number == q { 0 } else { number + 1 }]);
         }
         assert_eq!(well_formed(&strip), expected);
     }
     // Q 0.
-    assert!(!well_formed(&[10, 2, 1, 0, 0]));
+    assert!(!well_formed(&[10, 2, 1, 0, 0, 0]));
+    // The form before S-4: without the gap.
+    let former = [&SMALL[..4], &SMALL[5..]].concat();
+    assert!(!well_formed(&former));
 }
 
 #[test]
@@ -87,28 +91,28 @@ fn chains_that_meet_or_loop() {
         }
         well_formed(&strip)
     };
-    assert!(!with(&[(13, 1)]), "column 0 loops");
-    assert!(!with(&[(13, 2)]), "record 2 after itself");
-    assert!(!with(&[(17, 3)]), "the free chain loops");
-    assert!(!with(&[(5, 2), (10, 1)]), "record 2 in two columns");
+    assert!(!with(&[(14, 1)]), "column 0 loops");
+    assert!(!with(&[(14, 2)]), "record 2 after itself");
+    assert!(!with(&[(18, 3)]), "the free chain loops");
+    assert!(!with(&[(6, 2), (11, 1)]), "record 2 in two columns");
     assert!(!with(&[(3, 0)]), "record 3 in no chain");
-    assert!(!with(&[(4, 2)]), "record 1 in no chain");
+    assert!(!with(&[(5, 2)]), "record 1 in no chain");
     // Record 2 moved to column 1, properly.
-    assert!(with(&[(9, 0), (5, 2), (10, 1)]));
+    assert!(with(&[(10, 0), (6, 2), (11, 1)]));
     // Record 2 freed, properly: at either place of the free chain.
-    assert!(with(&[(9, 0), (10, 2), (11, 0), (12, 0), (17, 2)]));
-    assert!(with(&[(9, 0), (10, 2), (11, 0), (12, 0), (13, 3), (3, 2)]));
+    assert!(with(&[(10, 0), (11, 2), (12, 0), (13, 0), (18, 2)]));
+    assert!(with(&[(10, 0), (11, 2), (12, 0), (13, 0), (14, 3), (3, 2)]));
     // Record 3 used, no record free.
-    assert!(with(&[(3, 0), (5, 3), (14, 1), (15, 0), (16, 10)]));
+    assert!(with(&[(3, 0), (6, 3), (15, 1), (16, 0), (17, 10)]));
     // The two runs in the other order of record numbers.
     assert!(with(&[
-        (4, 2),
-        (7, 6),
-        (8, 8),
-        (9, 0),
-        (11, 0),
-        (12, 4),
-        (13, 1)
+        (5, 2),
+        (8, 6),
+        (9, 8),
+        (10, 0),
+        (12, 0),
+        (13, 4),
+        (14, 1)
     ]));
 }
 
@@ -142,6 +146,7 @@ fn record_numbers_are_left_open() {
             w: random.word(1, 20),
             r: random.word(1, 5),
             n: random.word(1, 8),
+            g: random.word(0, 3),
             q: random.between(1, 20) as usize,
         };
         let runs = random_runs(&mut random, figures.w, figures.n, figures.q);
@@ -173,6 +178,8 @@ fn strips_that_are_not_the_same() {
         strip_of(10, 2, 4, &[&[(0, 4), (6, 9)], &[]]),
         strip_of(10, 2, 4, &[&[(0, 4)], &[(6, 8)]]),
         strip_of(10, 2, 4, &[&[], &[]]),
+        strip_with_gap(10, 2, 1, 4, &[&[(0, 4), (6, 8)], &[]]),
+        strip_with_gap(10, 2, 400, 4, &[&[(0, 4), (6, 8)], &[]]),
         Vec::new(),
     ] {
         assert!(!same_strip(&strip, &other));
@@ -185,13 +192,16 @@ fn strips_that_are_not_the_same() {
 #[test]
 fn open_makes_all_columns_empty() {
     let mut strip = strip_of(10, 2, 4, &[&[(0, 4), (6, 8)], &[(1, 2)]]);
-    reference::open(7, 3, 2, &mut strip).unwrap();
+    reference::open(7, 3, 2, 0, &mut strip).unwrap();
     assert!(same_strip(&strip, &strip_of(7, 3, 4, &[&[], &[]])));
+    reference::open(7, 3, 2, 400, &mut strip).unwrap();
+    let with_gap = strip_with_gap(7, 3, 400, 4, &[&[], &[]]);
+    assert!(same_strip(&strip, &with_gap));
     // A length that is right for another N too.
-    let mut strip = vec![9; 4 + 6 + 4];
-    reference::open(7, 3, 6, &mut strip).unwrap();
+    let mut strip = vec![9; 5 + 6 + 4];
+    reference::open(7, 3, 6, 0, &mut strip).unwrap();
     assert!(same_strip(&strip, &opened(7, 3, 6, 1)));
-    let mut strip = vec![9; 4 + 2 + 8];
-    reference::open(7, 3, 2, &mut strip).unwrap();
+    let mut strip = vec![9; 5 + 2 + 8];
+    reference::open(7, 3, 2, 0, &mut strip).unwrap();
     assert!(same_strip(&strip, &opened(7, 3, 2, 2)));
 }

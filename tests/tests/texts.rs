@@ -3,9 +3,9 @@
 mod common;
 use common::*;
 use reference::generate::{
-    any_job, damaged_text, job, text_at_limit, text_of_job, Random, TextDamage,
+    any_job, damaged_text, job, text_at_limit, text_of_job, text_with_gap, Random, TextDamage,
 };
-use reference::text::{notes_on_text, sheet_of_text, text_of_sheet};
+use reference::text::{gap_and_sheet, notes_on_text, sheet_of_text, text_of_sheet};
 
 fn accepted(text: &str, job: &[u8]) {
     assert_eq!(sheet_of_text(text.as_bytes()), Ok(job.to_vec()), "{text}");
@@ -70,7 +70,7 @@ fn bad_lines() {
     bad("mm mm\n", "line 1: nothing follows mm");
     bad(SQUARE, "line 1: the strip comes before the pieces");
     for line in ["hole 1 0,0", "pieces", "piece,", "MM", "15", "\x0c"] {
-        bad_line(line, "a line begins with strip, piece, path or mm");
+        bad_line(line, "a line begins with strip, gap, piece, path or mm");
     }
 }
 
@@ -130,6 +130,86 @@ fn bad_numbers() {
         let digits = "one to three digits follow a point";
         bad_millimetres(&format!("piece 1 0,0 4,0 {vertex}"), digits);
     }
+}
+
+/// A gap stands in front of the sheet, in millimetres; one of 0 does not.
+#[test]
+fn gaps() {
+    let sheet = sheet(10, 2, 10, &[(&S, 1)]);
+    let text = |gap: &str| format!("strip 10 2 10\n{gap}piece 1 0,0 4,0 4,4 0,4\n");
+    let with = |line: &str| [line.as_bytes(), &sheet].concat();
+    for (typed, line, units) in [
+        ("gap 3", "gap 3\n", 24),
+        ("gap 3.0", "gap 3\n", 24),
+        ("gap\t03.125 # for the knife", "gap 3.125\n", 25),
+        ("gap 0.5\r", "gap 0.5\n", 4),
+        ("gap 49.875", "gap 49.875\n", 399),
+        ("gap 50", "gap 50\n", 400),
+        ("gap 0", "", 0),
+    ] {
+        accepted(&text(&format!("{typed}\n")), &with(line));
+        assert_eq!(gap_and_sheet(&with(line)), (units, &sheet[..]));
+        assert_eq!(text_of_sheet(&with(line)), text(line));
+    }
+    // Millimetres in every text; before the strip; no line at all.
+    let first = "gap 3\nmm\nstrip 1.25 0.25 10\npiece 1 0,0 0.5,0 0.5,0.5 0,0.5\n";
+    accepted(first, &with("gap 3\n"));
+    accepted(&text("mm\ngap 3\n").replace('4', "0.5"), &with("gap 3\n"));
+    accepted(&text(""), &sheet);
+}
+
+#[test]
+fn bad_gaps() {
+    let gap = "a gap is one length from 0 to 50 mm";
+    for line in ["gap 50.125", "gap 8191.875", "gap 3 3", "gap 3,3", "gap 3x"] {
+        bad_line(line, gap);
+        bad_millimetres(line, gap);
+    }
+    for line in ["gap", "gap x", "gap -1", "gap .5", "gap # 3"] {
+        bad_line(line, NUMBER);
+    }
+    bad_line("gap 3.1", "a length is a multiple of 0.125 mm");
+    bad_line("gap 3.1250", "one to three digits follow a point");
+    bad_line("gap 8192", "a number is at most 65535 units");
+    bad_line("gap3", "a line begins with strip, gap, piece, path or mm");
+    bad("gap 3\n", "line 1: there is no strip");
+    bad("gap 0\ngap 0\n", "line 2: there is one gap");
+    bad(
+        &format!("strip 40 2 10\n{SQUARE}gap 3\n"),
+        "line 3: the gap comes before the pieces",
+    );
+    // A job that is refused has no gap in front of its refusal.
+    bad("gap 3\nstrip 0 2 10", "job refused 3 0 (line 2)");
+}
+
+/// Any other line in front of a sheet is taken for the sheet, which gets 1.
+#[test]
+fn no_gap_in_front() {
+    let sheet = sheet(10, 2, 10, &[(&S, 1)]);
+    for line in [
+        "gap\n",
+        "gap 50.125\n",
+        "gap 3.1\n",
+        "gap 3 3\n",
+        "gap3\n",
+        "GAP 3\n",
+        " gap 3\n",
+        "\ngap 3\n",
+        "gap 3\ngap 3\n",
+        "gap 3 # knife\n",
+        "gap 0000000000003\n",
+        "gap 3",
+    ] {
+        let input = [line.as_bytes(), &sheet].concat();
+        assert_eq!(text_of_sheet(&input), "job refused 1 0\n", "{line}");
+    }
+    // The line alone; and a line as long as it may be.
+    assert_eq!(text_of_sheet(b"gap 3\n"), "job refused 1 0\n");
+    let input = [b"gap 000000000.5\n", &sheet[..]].concat();
+    assert_eq!(gap_and_sheet(&input), (4, &sheet[..]));
+    // Program `lay` knows no gap.
+    let input = [b"gap 3\n", &sheet[..]].concat();
+    assert_eq!(reference::lay_text(&input), "job refused 1 0\n");
 }
 
 #[test]
@@ -215,7 +295,13 @@ fn texts_of_jobs() {
         let sheet = job.sheet();
         assert_eq!(sheet_of_text(&text), Ok(sheet.clone()), "{seed}");
         let shown = text_of_sheet(&sheet);
-        assert_eq!(sheet_of_text(shown.as_bytes()), Ok(sheet), "{seed}");
+        assert_eq!(sheet_of_text(shown.as_bytes()), Ok(sheet.clone()), "{seed}");
+        let gap = random.word(0, 400);
+        let text = text_with_gap(&mut random, &job, Some(gap));
+        let with_gap = sheet_of_text(&text).expect("a good text");
+        assert_eq!(gap_and_sheet(&with_gap), (gap, &sheet[..]), "{seed}");
+        let shown = text_of_sheet(&with_gap);
+        assert_eq!(sheet_of_text(shown.as_bytes()), Ok(with_gap), "{seed}");
     }
 }
 
@@ -225,7 +311,8 @@ fn any_text() {
     for seed in 0..2_000 {
         let mut random = Random::new(seed);
         let job = any_job(&mut random);
-        let mut text = text_of_job(&mut random, &job);
+        let gap = random.once_in(2).then(|| random.word(0, 410));
+        let mut text = text_with_gap(&mut random, &job, gap);
         if random.once_in(50) {
             text = text_at_limit(&mut random);
         }
@@ -241,7 +328,7 @@ fn any_text() {
 #[test]
 fn samples() {
     let folder = concat!(env!("CARGO_MANIFEST_DIR"), "/../samples");
-    for name in ["wallets", "holes", "fates", "three-squares"] {
+    for name in ["wallets", "holes", "fates", "three-squares", "gap"] {
         let file = |kind: &str| std::fs::read(format!("{folder}/{name}.{kind}")).expect("a sample");
         let sheet = sheet_of_text(&file("txt")).expect("a good text");
         assert_eq!(

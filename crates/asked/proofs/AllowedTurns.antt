@@ -14,7 +14,7 @@ use Rattle.defs.specs.Meaning.Turn.{turned, Allows}
 use Rattle.defs.specs.Meaning.Question.{Question10}
 use Rattle.defs.specs.Computing.Cells.{pieceRuns, countRuns, allowedb}
 use Rattle.geom.proofs.Column.{and-last}
-use Rattle.geom.proofs.Checks.{cell-of-turn, question-11}
+use Rattle.geom.proofs.Checks.{some-run, question-11}
 use Rattle.outline.specs.Vertex.{Lent}
 use Rattle.inside.specs.Cell.{HasCell}
 use Rattle.asked.specs.Answers.{AllowedCell, SomeCell}
@@ -39,7 +39,7 @@ barred-has o mask t l e n =
 
 -- no allowed turn below n has a run
 pub record NoneBelow (o : List ℕ) (mask n : ℕ) : Type 0 where
-  pub none : (t : ℕ) → t < n → Allows mask t → (R : ℕ) → 1 ≤ R → ¬ (0 < countRuns (pieceRuns o t R))
+  pub none : (t : ℕ) → t < n → Allows mask t → (R : ℕ) → 1 ≤ R → ¬ (0 < countRuns (pieceRuns o t R 0))
 
 pub none-yet : (o : List ℕ) (mask : ℕ) → NoneBelow o mask 0
 none-yet o mask = record { none = λ t l a R Rpos p. omega arith }
@@ -48,7 +48,7 @@ pub none-more : {r : Bool} {o : List ℕ} {mask n : ℕ} → NoneBelow o mask n 
 none-more {r} {o} {mask} {n} u c e =
     record {
       none = λ t l.
-          and-last n (λ t. Allows mask t → (R : ℕ) → 1 ≤ R → ¬ (0 < countRuns (pieceRuns o t R))) (u .none)
+          and-last n (λ t. Allows mask t → (R : ℕ) → 1 ≤ R → ¬ (0 < countRuns (pieceRuns o t R 0))) (u .none)
           (λ a R Rpos p. not-decides (c .every R Rpos) .0 (ap not e) (a, p)) t (omega arith);
     }
 
@@ -58,7 +58,7 @@ module _ (o : List ℕ) (mask : ℕ) (lent : Lent o) (orders : Question10 o mask
       record {
         every = λ R Rpos.
             let p = c .every R Rpos .0 y in
-            let z = cell-of-turn o t R (allowed-ordered o mask orders t (p .0)) (some-side lent) Rpos .0 (p .1) in
+            let z = some-run o t R (allowed-ordered o mask orders t (p .0)) (some-side lent) Rpos 0 .0 (p .1) in
             sym (question-11 o mask R orders (some-side lent) Rpos .1
             (record { turn = t; column = z .0; row = z .1; allowed = p .0; covered = z .2 }));
       }
@@ -72,6 +72,6 @@ module _ (o : List ℕ) (mask : ℕ) (lent : Lent o) (orders : Question10 o mask
             (not-decides (question-11 o mask R orders (some-side lent) Rpos) .1
             (λ q.
             u .none (q .turn) (omega (arith, q .allowed .turn)) (q .allowed) R Rpos
-            (cell-of-turn o (q .turn) R (allowed-ordered o mask orders (q .turn) (q .allowed)) (some-side lent) Rpos .1
+            (some-run o (q .turn) R (allowed-ordered o mask orders (q .turn) (q .allowed)) (some-side lent) Rpos 0 .1
             (q .column, q .row, q .covered)))));
       }

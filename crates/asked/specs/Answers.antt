@@ -13,7 +13,7 @@ use Rattle.laws.proofs.Tests.{Decides}
 
 -- turn t is allowed and has a run
 pub record AllowedCell (o : List ℕ) (mask t : ℕ) (r : Bool) : Type 0 where
-  pub every : (R : ℕ) → 1 ≤ R → Decides r (Allows mask t × (0 < countRuns (pieceRuns o t R)))
+  pub every : (R : ℕ) → 1 ≤ R → Decides r (Allows mask t × (0 < countRuns (pieceRuns o t R 0)))
 
 -- the answer to question 11
 pub record SomeCell (o : List ℕ) (mask : ℕ) (r : Bool) : Type 0 where

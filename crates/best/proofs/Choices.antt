@@ -74,33 +74,33 @@ module _ (R : ℕ) (o : List ℕ) where
           ap (λ (b : Bool). cond b (some q) (some (p .at)))
           (sym (later-loses q (p .at) (omega (arith, k .end, h q refl .0, h q refl .1))))
 
-pub all-turns : {W R N : ℕ} {held : List (List Rows)} {o : List ℕ} {mask t words : ℕ} {s : Tried} → t ≤ 4 → 4 ≤ t →
-    TurnsTo W R N held o mask t words s → TurnsTo W R N held o mask 4 words s
+pub all-turns : {W R N g : ℕ} {held : List (List Rows)} {o : List ℕ} {mask t words : ℕ} {s : Tried} → t ≤ 4 → 4 ≤ t →
+    TurnsTo W R N g held o mask t words s → TurnsTo W R N g held o mask 4 words s
 all-turns {t = t} a b h = let e : t ≡ 4 = omega arith in rw e at h
 
 -- no runs were put yet
-pub none-kept : (o : List ℕ) (R : ℕ) (work : List ℕ) → Kept o R work 4 0
-none-kept o R work = record { stand = λ few. absurd (omega arith) }
+pub none-kept : (o : List ℕ) (R g : ℕ) (work : List ℕ) → Kept o R g work 4 0
+none-kept o R g work = record { stand = λ few. absurd (omega arith) }
 
 -- The turns below 0, and one turn more.
-pub no-turns : (W R N : ℕ) (held : List (List Rows)) (o : List ℕ) (mask words : ℕ) →
-    TurnsTo W R N held o mask 0 words (record { most = 0; best = Nowhere; stands = record { turn = 4; runs = 0 } })
+pub no-turns : (W R N g : ℕ) (held : List (List Rows)) (o : List ℕ) (mask words : ℕ) →
+    TurnsTo W R N g held o mask 0 words (record { most = 0; best = Nowhere; stands = record { turn = 4; runs = 0 } })
 unfolding mostRuns bestBelow
-no-turns W R N held o mask words = record { most = refl; best = λ h. record { is = refl; ranks = tt } }
+no-turns W R N g held o mask words = record { most = refl; best = λ h. record { is = refl; ranks = tt } }
 
-module _ {W R N : ℕ} {held : List (List Rows)} {o : List ℕ} {mask t words : ℕ} {s : Tried} (so-far : TurnsTo W R N held o mask t words s) where
-  pub turn-more : {x : Tried} {limit : ℕ} → allowedb mask t ≡ true → limit ≡ limitOf (s .best) N → OneTurn W R N held o t words limit x →
-      TurnsTo W R N held o mask (t + 1) words (merged s x)
+module _ {W R N g : ℕ} {held : List (List Rows)} {o : List ℕ} {mask t words : ℕ} {s : Tried} (so-far : TurnsTo W R N g held o mask t words s) where
+  pub turn-more : {x : Tried} {limit : ℕ} → allowedb mask t ≡ true → limit ≡ limitOf (s .best) N → OneTurn W R N g held o t words limit x →
+      TurnsTo W R N g held o mask (t + 1) words (merged s x)
   unfolding mostRuns bestBelow
   turn-more {x} {limit} e stop one = let n : t + 1 ≡ suc t = omega arith in rw n (go e)
     where
-      go : allowedb mask t ≡ true → TurnsTo W R N held o mask (suc t) words (merged s x)
+      go : allowedb mask t ≡ true → TurnsTo W R N g held o mask (suc t) words (merged s x)
       go e =
           record {
-            most = ap₂ max (so-far .most) (one .most) ∙ ap (λ (b : Bool). max (mostRuns o mask R t) (cond b (countRuns (pieceRuns o t R)) 0)) (sym e);
+            most = ap₂ max (so-far .most) (one .most) ∙ ap (λ (b : Bool). max (mostRuns o mask R g t) (cond b (countRuns (pieceRuns o t R g)) 0)) (sym e);
             best =
                 λ h.
-                subst (λ (b : Bool). Finds R o (better R o (bestBelow W R N held o mask t) (cond b (firstFree W R N held o t) none)) (betterBy (s .best) (x .best)))
+                subst (λ (b : Bool). Finds R o (better R o (bestBelow W R N g held o mask t) (cond b (firstFree W R N g held o t) none)) (betterBy (s .best) (x .best)))
                 (sym e) (better-to R o N _ (x .best) (so-far .best (omega arith)) (rw stop at (one .best (omega arith))));
           }
 
@@ -112,20 +112,20 @@ module _ {W R N : ℕ} {held : List (List Rows)} {o : List ℕ} {mask t words : 
   keep : (n : ℕ) → n ≡ max n 0
   keep n = omega arith
 
-  pub turn-skipped : allowedb mask t ≡ false → TurnsTo W R N held o mask (t + 1) words s
+  pub turn-skipped : allowedb mask t ≡ false → TurnsTo W R N g held o mask (t + 1) words s
   unfolding mostRuns bestBelow
   turn-skipped e = let n : t + 1 ≡ suc t = omega arith in rw n (go e)
     where
-      go : allowedb mask t ≡ false → TurnsTo W R N held o mask (suc t) words s
+      go : allowedb mask t ≡ false → TurnsTo W R N g held o mask (suc t) words s
       go e =
           record {
             most =
-                so-far .most ∙ keep (mostRuns o mask R t) ∙
-                ap (λ (b : Bool). max (mostRuns o mask R t) (cond b (countRuns (pieceRuns o t R)) 0)) (sym e);
+                so-far .most ∙ keep (mostRuns o mask R g t) ∙
+                ap (λ (b : Bool). max (mostRuns o mask R g t) (cond b (countRuns (pieceRuns o t R g)) 0)) (sym e);
             best =
                 λ h.
                 subst (λ (x : Option Position). Finds R o x (s .best))
-                (sym (better-none (bestBelow W R N held o mask t)) ∙
-                ap (λ (b : Bool). better R o (bestBelow W R N held o mask t) (cond b (firstFree W R N held o t) none)) (sym e))
+                (sym (better-none (bestBelow W R N g held o mask t)) ∙
+                ap (λ (b : Bool). better R o (bestBelow W R N g held o mask t) (cond b (firstFree W R N g held o t) none)) (sym e))
                 (so-far .best h);
           }

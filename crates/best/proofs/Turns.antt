@@ -40,24 +40,24 @@ use Rattle.best.specs.Choice.{ranked, SpotFits, FindsTo, NoneInTurn, One
 stored-front : (l ws : List ℕ) → length ws ≤ length l → take (length ws) (sets l 0 ws) ≡ ws
 stored-front l ws h = ap (take (length ws)) (sets-eq ws l 0 (omega arith)) ∙ take-at ws (drop (0 + length ws) l) (length ws) refl
 
-module _ {o : List ℕ} {t R : ℕ} {work work' : List ℕ} {k : ℕ} (put : PutRuns o t R work work' k) where
+module _ {o : List ℕ} {t R g : ℕ} {work work' : List ℕ} {k : ℕ} (put : PutRuns o t R g work work' k) where
   -- more runs than the work buffer has room for
   pub too-many : (W N : ℕ) (held : List (List Rows)) (limit : ℕ) → length work' / 3 < k →
-      OneTurn W R N held o t (length work) limit (record { most = k; best = Nowhere; stands = record { turn = t; runs = k } })
+      OneTurn W R N g held o t (length work) limit (record { most = k; best = Nowhere; stands = record { turn = t; runs = k } })
   too-many W N held limit m = record { most = put .count; best = λ r. absurd (omega (arith, put .long)) }
 
-  pub stands : k ≤ length work' / 3 → Stands (pieceRuns o t R) work' k
+  pub stands : k ≤ length work' / 3 → Stands (pieceRuns o t R g) work' k
   stands m =
       let fits : 3 * k ≤ length work = omega (arith, put .long) in
-      let words = runs-length 0 (pieceRuns o t R) in
-      let same : 3 * k ≡ length (runsWords 0 (pieceRuns o t R)) = omega (arith, words, put .count) in
+      let words = runs-length 0 (pieceRuns o t R g) in
+      let same : 3 * k ≡ length (runsWords 0 (pieceRuns o t R g)) = omega (arith, words, put .count) in
       record {
         count = put .count;
         long = omega (arith, put .long);
-        words = rw (same, put .written fits) (stored-front work (runsWords 0 (pieceRuns o t R)) (omega arith));
+        words = rw (same, put .written fits) (stored-front work (runsWords 0 (pieceRuns o t R g)) (omega arith));
       }
 
-  pub put-kept : Kept o R work' t k
+  pub put-kept : Kept o R g work' t k
   put-kept = record { stand = λ _ fits. stands (omega (arith, put .count)) }
 
 -- what is found where a test passes
@@ -70,9 +70,10 @@ module _
     {f l h r : List ℕ}
     {W N n p w wide tall : ℕ}
     (o : List ℕ)
-    (t R : ℕ)
+    (t R g : ℕ)
+    (small : g ≤ 400)
     (laid : Laid f l h W N n)
-    (stood : Stands (pieceRuns o t R) r p)
+    (stood : Stands (pieceRuns o t R g) r p)
     (across : w ≡ extentX o t)
     (columns : wide ≡ columnsFor w R)
     (up : tall ≡ extentY o t) where
@@ -80,16 +81,16 @@ module _
   wide-is = columns ∙ ap (λ (x : ℕ). columnsFor x R) across
 
   pub frame : Frame f l h r N W p wide tall
-  frame = rw (wide-is, up) (frame-of o t R laid stood)
+  frame = rw (wide-is, up) (frame-of o t R g small laid stood)
 
   -- where no position of the turn that ends before column `lower` is free, no column before has a free height
-  pub full-before : {lower : ℕ} → NoneInTurn W R N (tableOf f l h N) o t lower → FullBefore f l h r N W p wide tall lower
+  pub full-before : {lower : ℕ} → NoneInTurn W R N g (tableOf f l h N) o t lower → FullBefore f l h r N W p wide tall lower
   full-before h =
       rw (wide-is, up)
       (record {
         none =
             λ c before fits.
-            record { none = λ y rows free. h .none c y before fits rows (free-is o t R laid stood c y fits .0 free) };
+            record { none = λ y rows free. h .none c y before fits rows (free-is o t R g small laid stood c y fits .0 free) };
       })
 
   pub spot-fits : (limit : ℕ) (s : Spot) → W ≤ 16000 → N ≤ 4096 → SearchedTo f l h r N W p wide tall limit s → SpotFits s wide tall
@@ -97,33 +98,33 @@ module _
   spot-fits limit None a b e = tt
 
   -- a position that the definition finds is free, so it is none of those that have no free height
-  after-limit : (limit : ℕ) → ((c : ℕ) → c + columnsFor (extentX o t) R ≤ limit → NoHeight f l h r W p (extentY o t) c) →
-      (q : Position) → firstFree W R N (tableOf f l h N) o t ≡ some q → (limit < endColumn R o q) × (endColumn R o q ≤ N)
+  after-limit : (limit : ℕ) → ((c : ℕ) → c + columnsFor (extentX o t) R ≤ limit → NoHeight f l h r N W p (extentY o t) c) →
+      (q : Position) → firstFree W R N g (tableOf f l h N) o t ≡ some q → (limit < endColumn R o q) × (endColumn R o q ≤ N)
   unfolding firstFree endColumn
   after-limit limit full q e =
       let column = first-at _ 0 _ q e in
       let c = column .at in
       let height = first-at _ 0 _ q (column .finds) in
       let y = height .at in
-      let here = found-where (freeb y (pieceRuns o t R) (dropN c (tableOf f l h N))) (height .finds) in
+      let here = found-where (freeb y (pieceRuns o t R g) (dropN c (tableOf f l h N))) (height .finds) in
       let on-strip : c + columnsFor (extentX o t) R ≤ N = omega (arith, column .below) in
       subst (λ (a : Position). (limit < a .column + columnsFor (extentX o (a .turn)) R) × (a .column + columnsFor (extentX o (a .turn)) R ≤ N))
       (here .1) (
         ⊎-elim (λ u. u)
-            (λ u. absurd (full c u .none y (omega (arith, height .below)) (free-is o t R laid stood c y on-strip .1 (here .0))))
+            (λ u. absurd (full c u .none y (omega (arith, height .below)) (free-is o t R g small laid stood c y on-strip .1 (here .0))))
             (lt-or-le limit (c + columnsFor (extentX o t) R)),
         on-strip,
       )
 
   finds : (limit : ℕ) (s : Spot) → SearchedTo f l h r N W p (columnsFor (extentX o t) R) (extentY o t) limit s →
-      FindsTo R N o (firstFree W R N (tableOf f l h N) o t) limit (ranked s t (columnsFor (extentX o t) R) (extentY o t))
+      FindsTo R N o (firstFree W R N g (tableOf f l h N) o t) limit (ranked s t (columnsFor (extentX o t) R) (extentY o t))
   unfolding endColumn top
   finds limit (Found c y) e =
-      record { is = sym (found-is o t R laid stood e); ranks = record { end = refl; top = refl } }
+      record { is = sym (found-is o t R g small laid stood e); ranks = record { end = refl; top = refl } }
   finds limit None e = after-limit limit e
 
   pub turn-tried : (words limit : ℕ) (s : Spot) {c : Choice} → SearchedTo f l h r N W p wide tall limit s → c ≡ ranked s t wide tall →
-      OneTurn W R N (tableOf f l h N) o t words limit (record { most = p; best = c; stands = record { turn = t; runs = p } })
+      OneTurn W R N g (tableOf f l h N) o t words limit (record { most = p; best = c; stands = record { turn = t; runs = p } })
   turn-tried words limit s e q =
       record { most = stood .count; best = λ _. rw (q, wide-is, up) (finds limit s (rw (wide-is, up) at e)) }
 
@@ -134,9 +135,9 @@ unfolding Question10
 keeps-turn o mask t l q e y = q t (allowed mask t l .0 (sym e ∙ y))
 
 -- in an allowed turn, none that ends before column `lower` is free
-pub none-in-turn : {f l h : List ℕ} {W R N n : ℕ} (o : List ℕ) (mask t : ℕ) {lower : ℕ} {r : Bool} → Lent o → 1 ≤ R → Laid f l h W N n →
-    t ≤ 3 → Question10 o mask → r ≡ allowedb mask t → r ≡ true → NoneBefore W R N (tableOf f l h N) o mask lower →
-    NoneInTurn W R N (tableOf f l h N) o t lower
+pub none-in-turn : {f l h : List ℕ} {W R N g n : ℕ} (o : List ℕ) (mask t : ℕ) {lower : ℕ} {r : Bool} → Lent o → 1 ≤ R → Laid f l h W N n →
+    t ≤ 3 → Question10 o mask → r ≡ allowedb mask t → r ≡ true → NoneBefore W R N g (tableOf f l h N) o mask lower →
+    NoneInTurn W R N g (tableOf f l h N) o t lower
 none-in-turn o mask t lent Rpos laid few q e y h =
     record {
       none = not-free h (allowed mask t few .0 (sym e ∙ y)) (keeps-turn o mask t few q e y) (omega (arith, lent .some)) Rpos (table-flat laid);

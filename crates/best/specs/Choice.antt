@@ -56,32 +56,33 @@ FindsTo R N o x limit (Chosen b) = Finds R o x (Chosen b)
 FindsTo R N o x limit Nowhere = (q : Position) → x ≡ some q → (limit < endColumn R o q) × (endColumn R o q ≤ N)
 
 -- an outline that passes 7 and 8, its bounds, and a table laid flat
-pub record Ready (f l h o : List ℕ) (W R N left right foot head : ℕ) : Type 0 where
+pub record Ready (f l h o : List ℕ) (W R N g left right foot head : ℕ) : Type 0 where
   pub lent : Lent o
   pub bounds : BoundsOf o left right foot head
   pub least : 1 ≤ R
   pub most : R ≤ 400
+  pub gap : g ≤ 400
   pub width : W ≤ 16000
   pub columns : N ≤ 4096
   pub count : ℕ
   pub table : Laid f l h W N count
 
 -- no free position of turn t ends before column `lower`
-pub record NoneInTurn (W R N : ℕ) (held : List (List Rows)) (o : List ℕ) (t lower : ℕ) : Type 0 where
+pub record NoneInTurn (W R N g : ℕ) (held : List (List Rows)) (o : List ℕ) (t lower : ℕ) : Type 0 where
   pub none :
       (c y : ℕ) → c + columnsFor (extentX o t) R < lower → c + columnsFor (extentX o t) R ≤ N → y + extentY o t ≤ W →
-      ¬ (freeb y (pieceRuns o t R) (dropN c held) ≡ true)
+      ¬ (freeb y (pieceRuns o t R g) (dropN c held) ≡ true)
 
 -- turn t, with work of so many words, searched up to column `limit`
-pub record OneTurn (W R N : ℕ) (held : List (List Rows)) (o : List ℕ) (t words limit : ℕ) (s : Tried) : Type 0 where
-  pub most : s .most ≡ countRuns (pieceRuns o t R)
-  pub best : 3 * s .most ≤ words → FindsTo R N o (firstFree W R N held o t) limit (s .best)
+pub record OneTurn (W R N g : ℕ) (held : List (List Rows)) (o : List ℕ) (t words limit : ℕ) (s : Tried) : Type 0 where
+  pub most : s .most ≡ countRuns (pieceRuns o t R g)
+  pub best : 3 * s .most ≤ words → FindsTo R N o (firstFree W R N g held o t) limit (s .best)
 
 -- the allowed turns below t
-pub record TurnsTo (W R N : ℕ) (held : List (List Rows)) (o : List ℕ) (mask t words : ℕ) (s : Tried) : Type 0 where
-  pub most : s .most ≡ mostRuns o mask R t
-  pub best : 3 * s .most ≤ words → Finds R o (bestBelow W R N held o mask t) (s .best)
+pub record TurnsTo (W R N g : ℕ) (held : List (List Rows)) (o : List ℕ) (mask t words : ℕ) (s : Tried) : Type 0 where
+  pub most : s .most ≡ mostRuns o mask R g t
+  pub best : 3 * s .most ≤ words → Finds R o (bestBelow W R N g held o mask t) (s .best)
 
 -- where a turn's runs were put into the work buffer, and all of them fit, these k stand there
-pub record Kept (o : List ℕ) (R : ℕ) (work : List ℕ) (t k : ℕ) : Type 0 where
-  pub stand : t ≤ 3 → 3 * countRuns (pieceRuns o t R) ≤ length work → Stands (pieceRuns o t R) work k
+pub record Kept (o : List ℕ) (R g : ℕ) (work : List ℕ) (t k : ℕ) : Type 0 where
+  pub stand : t ≤ 3 → 3 * countRuns (pieceRuns o t R g) ≤ length work → Stands (pieceRuns o t R g) work k

@@ -43,6 +43,7 @@ fn rank(s: Spot, t: u16, wide: usize, tall: u16) -> Choice
 // last column is after `limit` may be left out.
 fn try_turn(
     g: Figures,
+    gap: u16,
     first: &[u16],
     lows: &[u16],
     highs: &[u16],
@@ -54,14 +55,14 @@ fn try_turn(
     limit: usize,
     work: &mut [u16],
 ) -> Tried
-    requires { ⌜ Ready (now first) (now lows) (now highs) (now o) (g .width) (g .resolution) (g .columns) (b .left) (b .right) (b .foot) (b .head) ⌝
+    requires { ⌜ Ready (now first) (now lows) (now highs) (now o) (g .width) (g .resolution) (g .columns) gap (b .left) (b .right) (b .foot) (b .head) ⌝
         ∗ ⌜ t ≤ 3 ⌝ ∗ ⌜ KeepsOrder (turned (now o) t) ⌝ ∗ ⌜ (limit ≤ g .columns)
-        × NoneInTurn (g .width) (g .resolution) (g .columns) (tableOf (now first) (now lows) (now highs) (g .columns)) (now o) t lower ⌝ }
-    ensures { λ s. ⌜ OneTurn (g .width) (g .resolution) (g .columns) (tableOf (now (first .entry)) (now (lows .entry)) (now (highs .entry)) (g .columns)) (now (o .entry)) t (length (now (work .entry))) limit s ⌝
-        ∗ ⌜ Kept (now (o .entry)) (g .resolution) (now (work .exit)) (s .stands .turn) (s .stands .runs) ⌝ }
+        × NoneInTurn (g .width) (g .resolution) (g .columns) gap (tableOf (now first) (now lows) (now highs) (g .columns)) (now o) t lower ⌝ }
+    ensures { λ s. ⌜ OneTurn (g .width) (g .resolution) (g .columns) gap (tableOf (now (first .entry)) (now (lows .entry)) (now (highs .entry)) (g .columns)) (now (o .entry)) t (length (now (work .entry))) limit s ⌝
+        ∗ ⌜ Kept (now (o .entry)) (g .resolution) gap (now (work .exit)) (s .stands .turn) (s .stands .runs) ⌝ }
 {
     let e = outline::extent_of(o, b, t);
-    let k = cells::put_runs(o, b, t, g.resolution, e.w, work);
+    let k = cells::put_runs(o, b, t, g.resolution, gap, e.w, work);
     if work.len() / 3 < k {
         return Tried {
             most: k,
@@ -88,6 +89,7 @@ fn try_turn(
 // The turns tried so far, and turn t if the mask allows it.
 fn allowed_turn(
     g: Figures,
+    gap: u16,
     first: &[u16],
     lows: &[u16],
     highs: &[u16],
@@ -100,19 +102,19 @@ fn allowed_turn(
     work: &mut [u16],
     s: Tried,
 ) -> Tried
-    requires { ⌜ Ready (now first) (now lows) (now highs) (now o) (g .width) (g .resolution) (g .columns) (b .left) (b .right) (b .foot) (b .head) ⌝
+    requires { ⌜ Ready (now first) (now lows) (now highs) (now o) (g .width) (g .resolution) (g .columns) gap (b .left) (b .right) (b .foot) (b .head) ⌝
         ∗ ⌜ t ≤ 3 ⌝
         ∗ ⌜ Question10 (now o) mask
-        × NoneBefore (g .width) (g .resolution) (g .columns) (tableOf (now first) (now lows) (now highs) (g .columns)) (now o) mask lower ⌝
-        ∗ ⌜ TurnsTo (g .width) (g .resolution) (g .columns) (tableOf (now first) (now lows) (now highs) (g .columns)) (now o) mask t (length (now work)) s ⌝
-        ∗ ⌜ Kept (now o) (g .resolution) (now work) (s .stands .turn) (s .stands .runs) ⌝ }
-    ensures { λ r. ⌜ TurnsTo (g .width) (g .resolution) (g .columns) (tableOf (now (first .entry)) (now (lows .entry)) (now (highs .entry)) (g .columns)) (now (o .entry)) mask (t + 1) (length (now (work .entry))) r ⌝
-        ∗ ⌜ Kept (now (o .entry)) (g .resolution) (now (work .exit)) (r .stands .turn) (r .stands .runs) ⌝ }
+        × NoneBefore (g .width) (g .resolution) (g .columns) gap (tableOf (now first) (now lows) (now highs) (g .columns)) (now o) mask lower ⌝
+        ∗ ⌜ TurnsTo (g .width) (g .resolution) (g .columns) gap (tableOf (now first) (now lows) (now highs) (g .columns)) (now o) mask t (length (now work)) s ⌝
+        ∗ ⌜ Kept (now o) (g .resolution) gap (now work) (s .stands .turn) (s .stands .runs) ⌝ }
+    ensures { λ r. ⌜ TurnsTo (g .width) (g .resolution) (g .columns) gap (tableOf (now (first .entry)) (now (lows .entry)) (now (highs .entry)) (g .columns)) (now (o .entry)) mask (t + 1) (length (now (work .entry))) r ⌝
+        ∗ ⌜ Kept (now (o .entry)) (g .resolution) gap (now (work .exit)) (r .stands .turn) (r .stands .runs) ⌝ }
 {
     if checks::allows(mask, t) {
         let c = s.best;
         let limit = ranks::limit_of(c, g.columns as usize);
-        let x = try_turn(g, first, lows, highs, o, b, t, way, lower, limit, work);
+        let x = try_turn(g, gap, first, lows, highs, o, b, t, way, lower, limit, work);
         return ranks::merge(s, x);
     }
     s
@@ -121,6 +123,7 @@ fn allowed_turn(
 // The best position in the allowed turns, where none ends before column `lower`.
 pub fn best_turn(
     g: Figures,
+    gap: u16,
     first: &[u16],
     lows: &[u16],
     highs: &[u16],
@@ -131,11 +134,11 @@ pub fn best_turn(
     lower: usize,
     work: &mut [u16],
 ) -> Tried
-    requires { ⌜ Ready (now first) (now lows) (now highs) (now o) (g .width) (g .resolution) (g .columns) (b .left) (b .right) (b .foot) (b .head) ⌝
+    requires { ⌜ Ready (now first) (now lows) (now highs) (now o) (g .width) (g .resolution) (g .columns) gap (b .left) (b .right) (b .foot) (b .head) ⌝
         ∗ ⌜ Question10 (now o) mask
-        × NoneBefore (g .width) (g .resolution) (g .columns) (tableOf (now first) (now lows) (now highs) (g .columns)) (now o) mask lower ⌝ }
-    ensures { λ r. ⌜ TurnsTo (g .width) (g .resolution) (g .columns) (tableOf (now (first .entry)) (now (lows .entry)) (now (highs .entry)) (g .columns)) (now (o .entry)) mask 4 (length (now (work .entry))) r ⌝
-        ∗ ⌜ Kept (now (o .entry)) (g .resolution) (now (work .exit)) (r .stands .turn) (r .stands .runs) ⌝ }
+        × NoneBefore (g .width) (g .resolution) (g .columns) gap (tableOf (now first) (now lows) (now highs) (g .columns)) (now o) mask lower ⌝ }
+    ensures { λ r. ⌜ TurnsTo (g .width) (g .resolution) (g .columns) gap (tableOf (now (first .entry)) (now (lows .entry)) (now (highs .entry)) (g .columns)) (now (o .entry)) mask 4 (length (now (work .entry))) r ⌝
+        ∗ ⌜ Kept (now (o .entry)) (g .resolution) gap (now (work .exit)) (r .stands .turn) (r .stands .runs) ⌝ }
 {
     let mut s = Tried {
         most: 0,
@@ -144,7 +147,21 @@ pub fn best_turn(
     };
     let mut t = 0;
     while t < 4 {
-        s = allowed_turn(g, first, lows, highs, o, b, mask, t, way, lower, work, s);
+        s = allowed_turn(
+            g,
+            gap,
+            first,
+            lows,
+            highs,
+            o,
+            b,
+            mask,
+            t,
+            way,
+            lower,
+            work,
+            s,
+        );
         t += 1;
     }
     s

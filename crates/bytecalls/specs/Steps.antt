@@ -7,9 +7,9 @@ use Rattle.defs.specs.declared.Laying.{Laying}
 use Rattle.defs.specs.Computing.Lay.{layAnswer, layOutput, LayLeaves}
 use Rattle.defs.specs.Computing.Bytes.{wordsIn, bytesLeft}
 
-pub record LaidBytes (sheet strip out : List ℕ) (work : ℕ) (a : Laying) (strip' out' : List ℕ) : Type 0 where
+pub record LaidBytes (sheet : List ℕ) (g : ℕ) (strip out : List ℕ) (work : ℕ) (a : Laying) (strip' out' : List ℕ) : Type 0 where
   pub words : List ℕ
-  pub answer : a ≡ layAnswer sheet (length (wordsIn strip)) (length (wordsIn out)) work
-  pub leaves : LayLeaves sheet (wordsIn strip) work a words
+  pub answer : a ≡ layAnswer sheet g (length (wordsIn strip)) (length (wordsIn out)) work
+  pub leaves : LayLeaves sheet g (wordsIn strip) work a words
   pub strip-left : strip' ≡ bytesLeft strip words
-  pub out-left : out' ≡ bytesLeft out (layOutput sheet (wordsIn out) (length (wordsIn strip)) work a)
+  pub out-left : out' ≡ bytesLeft out (layOutput sheet g (wordsIn out) (length (wordsIn strip)) work a)

@@ -1,10 +1,10 @@
--- From a place or commit call on local words to one on the bytes of strip and outline, to one with a work buffer of more words, and to the
--- steps of place, ask and commit. Assumes nothing.
+-- From a place or commit call on local words to one on the bytes of strip and outline, to one with a work buffer of more words, and to
+-- the steps of place, ask and commit. Assumes nothing.
 use mathlib.Core.Path.{_≡_, refl, sym, ap, subst, _∙_}
 use mathlib.Core.Logic.{⊎-elim}
 use mathlib.Core.Bool.{Bool, true, false}
 use mathlib.Core.List.{List, _++_}
-use Prim.Native.Nat.{ℕ, _*_, _/_, _^_, _≤_, _<_}
+use Prim.Native.Nat.{ℕ, _*_, _/_, _^_, _≤_, _<_, min}
 use native.Mathlib.Omega.{arith}
 use lib.Dec.{leb}
 use lib.ListN.{length, getD, take, drop}
@@ -18,7 +18,7 @@ use Rattle.defs.specs.Meaning.Limits.{mostTurn}
 use Rattle.defs.specs.Meaning.Strip.{resolutionOf}
 use Rattle.defs.specs.Computing.Words.{wellFormedb}
 use Rattle.defs.specs.Computing.Calls.{refusal, cleared, q7b, q9b, outlineNo, shown, placeOn, placeAnswer, askAnswer, commitOn, commitAnswer, EnteredLeaves, PlaceLeaves, CommitLeaves}
-use Rattle.defs.specs.Computing.Bytes.{wordsIn, wordBytes, bytesLeft, PlaceBytesStep, AskBytesStep, CommitBytesStep}
+use Rattle.defs.specs.Computing.Bytes.{wordsIn, mostWork, workIn, wordBytes, bytesLeft, PlaceBytesStep, AskBytesStep, CommitBytesStep}
 use Rattle.laws.proofs.Questions.{question-7}
 use Rattle.geom.proofs.Strip.{lt-or-le}
 use Rattle.bytewords.proofs.Laws.{words-length, put-all, bytes-back}
@@ -30,9 +30,8 @@ use Rattle.commit.specs.Strip.{asCommit}
 use Rattle.commit.proofs.Strip.{commit-answer, commit-leaves}
 use Rattle.byteput.specs.Steps.{PutWords, PutCopy, PutBack}
 use Rattle.byteput.proofs.Asks.{refuted}
-use Rattle.byteput.proofs.Caps.{Capped, Cut, uncut}
+use Rattle.byteput.proofs.Caps.{Cut, uncut, work-long}
 use Rattle.byteput.proofs.Strips.{long-ill, left-short}
-use Rattle.byteput.proofs.Work.{room-same-answer}
 use Rattle.byteput.proofs.Halves.{half-serves, half-cleared}
 
 -- a strip or an outline that is cut down
@@ -56,7 +55,7 @@ outline-same w s {o} {o'} work c =
     either h h' true e = long-refused w s o' work e h' ∙ sym (long-refused w s o work e h)
     either h h' false e = ill-refused w s o' work e ∙ sym (ill-refused w s o work e)
 
-answer-same : (w : Wanted) {s s' o o' : List ℕ} (work : ℕ) → Cut 68100 s s' → Cut 128 o o' → answerTo w s' o' work ≡ answerTo w s o work
+answer-same : (w : Wanted) {s s' o o' : List ℕ} (work : ℕ) → Cut 68101 s s' → Cut 128 o o' → answerTo w s' o' work ≡ answerTo w s o work
 answer-same w {s} {s'} {o} {o'} work c d =
     ⊎-elim (λ e. ap (λ (l : List ℕ). answerTo w l o' work) e ∙ outline-same w s work d)
     (λ h. ill-refused w s' o' work (long-ill s' (h .1)) ∙ sym (ill-refused w s o work (long-ill s (h .0)))) c
@@ -68,7 +67,7 @@ placed-few w s o work e = ⊎-elim (λ h. absurd (either h (wellFormedb s) refl)
     either h true f = not-placed (sym (long-refused w s o work f h) ∙ sym e)
     either h false f = not-placed (sym (ill-refused w s o work f) ∙ sym e)
 
-pub put-words : {bs os s o s' : List ℕ} {w : Wanted} {work : ℕ} {a : Placing} → Cut 68100 (wordsIn bs) s → Cut 128 (wordsIn os) o →
+pub put-words : {bs os s o s' : List ℕ} {w : Wanted} {work : ℕ} {a : Placing} → Cut 68101 (wordsIn bs) s → Cut 128 (wordsIn os) o →
     Put s o w work a s' → PutWords bs os w work a s'
 unfolding PlaceLeaves
 put-words {bs} {os} {s} {o} {s'} {w} {work} {a} c d x =
@@ -80,10 +79,9 @@ put-words {bs} {os} {s} {o} {s'} {w} {work} {a} c d x =
         let outline : o ≡ wordsIn os = uncut d (placed-few w s o work e) in
         rw (strip, outline) at l
 
--- a work buffer of more words than any outline needs
-pub put-more : {bs os words : List ℕ} {w : Wanted} {room n : ℕ} {a : Placing} → Capped 1535999 room n → PutWords bs os w n a words →
-    PutWords bs os w room a words
-put-more {bs} {os} {w = w} c x = record { answer = x .answer ∙ room-same-answer w c (wordsIn bs) (wordsIn os); leaves = x .leaves }
+-- as many words of a work buffer as are used
+pub put-some : {bs os words : List ℕ} {w : Wanted} {n m : ℕ} {a : Placing} → n ≡ m → PutWords bs os w n a words → PutWords bs os w m a words
+put-some e x = rw e at x
 
 -- half of a work buffer stands for all of it
 pub put-half : {bs os words : List ℕ} {w : Wanted} (work : List ℕ) {front : List ℕ} {a : Placing} {work' : List ℕ} →
@@ -92,7 +90,7 @@ pub put-half : {bs os words : List ℕ} {w : Wanted} (work : List ℕ) {front : 
     PutCopy bs os w work a words work'
 put-half work l x e =
     record {
-      done = put-more (rw (words-length (take (length work / 2) work)) at (half-serves work l)) (x .done);
+      done = rw (half-serves work l) at (x .done);
       cleared-work = half-cleared work (x .cleared-work) refl e;
     }
 
@@ -130,10 +128,9 @@ module _ {bs : List ℕ} (bytes : (i : ℕ) → i < length bs → getD bs i 0 < 
   ask-step {os} {words} {work} {mask} x q =
       record {
         words = wordsIn bs;
-        work-words = cleared (wordsIn work);
         step =
             record {
-              answer = q ∙ ap shown (x .done .answer ∙ ap (placeAnswer (wordsIn bs) (wordsIn os) mask) (sym (words-length work)));
+              answer = q ∙ ap shown (x .done .answer ∙ ap (placeAnswer (wordsIn bs) (wordsIn os) mask) (sym (work-long work)));
               strip = refl;
               zeros = refl;
             };
@@ -147,10 +144,9 @@ unfolding answerTo
 place-step {bs} {os} {work} {mask} x =
     record {
       words = x .words;
-      work-words = cleared (wordsIn work);
       step =
           record {
-            answer = x .done .answer ∙ ap (placeAnswer (wordsIn bs) (wordsIn os) mask) (sym (words-length work));
+            answer = x .done .answer ∙ ap (placeAnswer (wordsIn bs) (wordsIn os) mask) (sym (work-long work));
             strip = x .done .leaves;
             zeros = refl;
           };
@@ -163,10 +159,9 @@ pub commit-step : {bs os work : List ℕ} {p : Position} {a : Placing} {r : Comm
 commit-step {bs} {os} {work} {p} x q =
     record {
       words = x .words;
-      work-words = cleared (wordsIn work);
       step =
           record {
-            answer = q ∙ commit-answer (x .done) ∙ ap (commitAnswer (wordsIn bs) (wordsIn os) p) (sym (words-length work));
+            answer = q ∙ commit-answer (x .done) ∙ ap (commitAnswer (wordsIn bs) (wordsIn os) p) (sym (work-long work));
             strip =
                 subst (λ (b : Committing). CommitLeaves (wordsIn bs) (wordsIn os) p b (x .words)) (sym q) (commit-leaves (x .done));
             zeros = refl;

@@ -7,10 +7,10 @@ use Prim.Native.Nat.{ℕ, _+_, _/_, _≤_, _<_, min}
 use native.Mathlib.Omega.{arith}
 use native.Mathlib.Decide.{decLt}
 use lib.Dec.{leb}
-use lib.ListN.{length, take}
+use lib.ListN.{length, take, length-take}
 use lib.Seq.{take-all, length-take-le}
 use borrow.Author.Tests.{le-leb}
-use Rattle.defs.specs.Computing.Bytes.{wordsIn}
+use Rattle.defs.specs.Computing.Bytes.{wordsIn, mostWork, workIn}
 use Rattle.bytewords.proofs.Laws.{words-length}
 
 abbrev pub Capped : ℕ → ℕ → ℕ → Type 0
@@ -42,6 +42,11 @@ uncut c l = ⊎-elim (λ e. e) (λ h. absurd (omega (arith, h .1))) c
 -- the words of a buffer that is passed as bytes, of which so many are counted, or read
 pub words-capped : {most : ℕ} (bs : List ℕ) {n : ℕ} → n ≡ min (length bs / 2) (most + 1) → Capped most (length (wordsIn bs)) n
 words-capped bs e = capped (rw (words-length bs) e)
+
+-- as many of a work buffer's words as are used
+pub work-long : (bs : List ℕ) → length (workIn bs) ≡ min (length bs / 2) mostWork
+unfolding workIn
+work-long bs = length-take mostWork (wordsIn bs) ∙ ap (min mostWork) (words-length bs) ∙ omega arith
 
 pub words-cut : {most : ℕ} (bs : List ℕ) {k : List ℕ} {n : ℕ} → n ≡ min (length bs / 2) (most + 1) → k ≡ take n (wordsIn bs) →
     Cut most (wordsIn bs) k

@@ -1,16 +1,14 @@
--- Half of a work buffer, where half is enough for any outline: it stands for all of it, and clearing the buffer afterwards clears what the
+-- Half of a work buffer, where half has as many words as are used: it stands for all of it, and clearing the buffer afterwards clears what the
 -- call on the half has left. Assumes nothing.
 use mathlib.Core.Path.{_≡_, ap, _∙_}
-use mathlib.Core.Logic.{inr}
 use mathlib.Core.List.{List, _++_}
-use Prim.Native.Nat.{ℕ, _/_, _≤_}
+use Prim.Native.Nat.{ℕ, _/_, _≤_, min}
 use native.Mathlib.Omega.{arith}
 use lib.ListN.{length, take, drop, length-append, length-drop, length-replicate}
 use lib.Seq.{length-take-le}
 use Rattle.defs.specs.Computing.Calls.{cleared}
-use Rattle.defs.specs.Computing.Bytes.{wordsIn, bytesLeft}
-use Rattle.bytewords.proofs.Laws.{words-length, left-length, cleared-same, odd-kept}
-use Rattle.byteput.proofs.Caps.{Capped}
+use Rattle.defs.specs.Computing.Bytes.{wordsIn, mostWork, bytesLeft}
+use Rattle.bytewords.proofs.Laws.{left-length, cleared-same, odd-kept}
 
 module _ (work : List ℕ) where
   abbrev half : ℕ
@@ -19,8 +17,8 @@ module _ (work : List ℕ) where
   pub front-long : length (take half work) ≡ half
   front-long = length-take-le half work (omega arith)
 
-  pub half-serves : 3072000 ≤ half → Capped 1535999 half (length (wordsIn (take half work)))
-  half-serves l = inr (omega arith, omega (arith, words-length (take half work), front-long))
+  pub half-serves : 3072000 ≤ half → min (length (take half work) / 2) mostWork ≡ min half mostWork
+  half-serves l = omega (arith, front-long)
 
   module _ {front zeros : List ℕ} (left : front ≡ bytesLeft (take half work) zeros) (none : zeros ≡ cleared (wordsIn (take half work))) where
     left-long : length front ≡ half

@@ -2,6 +2,5 @@ pub mod Asks
 pub mod Caps
 pub mod Parts
 pub mod Strips
-pub mod Work
 pub mod Halves
 pub mod Calls

@@ -1,10 +1,10 @@
 // Place, ask and commit on buffers passed as bytes: the same calls on local words. Strip and outline are copied, a work buffer is not, since
-// only its number of words matters to a call: a local one of as many words, or of as many as any outline needs, stands in for it.
+// only its number of words matters to a call: a local one of as many words, or of as many as are used of one, stands in for it.
 
 ghost use mathlib.Core.Path.{_≡_};
 ghost use Prim.Native.Nat.{_/_, _≤_, min};
 ghost use lib.ListN.{length};
-ghost use Rattle.defs.specs.Computing.Bytes.{PlaceBytesStep, AskBytesStep, CommitBytesStep};
+ghost use Rattle.defs.specs.Computing.Bytes.{mostWork, PlaceBytesStep, AskBytesStep, CommitBytesStep};
 ghost use Rattle.byteput.specs.Steps.{PutWords, PutCopy, PutBack};
 use defs::Asking;
 use defs::Committing;
@@ -13,7 +13,7 @@ use defs::Position;
 use wanted::Wanted;
 
 // One word more than the longest strip has, so that a longer one is as wrong in its length as it was.
-pub const STRIP_ROOM: usize = 68101;
+pub const STRIP_ROOM: usize = 68102;
 
 // One word more than the longest outline has.
 const OUTLINE_ROOM: usize = 129;
@@ -21,7 +21,7 @@ const OUTLINE_ROOM: usize = 129;
 // A work buffer with more words than this needs more stack.
 pub const SMALL_WORK: usize = 9000;
 
-// Three words for each run of an outline that has most.
+// Three words for each run of the outline that has most, with no gap.
 pub const MOST_WORK: usize = 1536000;
 
 pub fn lesser(a: usize, b: usize) -> usize
@@ -39,7 +39,7 @@ fn put_words(
     corners: &mut [u16],
     work: &mut [u16],
 ) -> Placing
-    requires { ⌜ length (now words) ≡ min (length (now strip) / 2) 68101 ⌝ ∗ ⌜ length (now corners) ≡ min (length (now outline) / 2) 129 ⌝ }
+    requires { ⌜ length (now words) ≡ min (length (now strip) / 2) 68102 ⌝ ∗ ⌜ length (now corners) ≡ min (length (now outline) / 2) 129 ⌝ }
     ensures { λ a. ⌜ PutWords (now (strip .entry)) (now (outline .entry)) wanted (length (now (work .entry))) a (now (words .exit)) ⌝ }
 {
     bytewords::take_words(strip, words);
@@ -55,7 +55,7 @@ fn put_with(
     words: &mut [u16],
     work: &mut [u16],
 ) -> Placing
-    requires { ⌜ length (now words) ≡ min (length (now strip) / 2) 68101 ⌝ }
+    requires { ⌜ length (now words) ≡ min (length (now strip) / 2) 68102 ⌝ }
     ensures { λ a. ⌜ PutWords (now (strip .entry)) (now (outline .entry)) wanted (length (now (work .entry))) a (now (words .exit)) ⌝ }
 {
     let mut corners = [0u16; OUTLINE_ROOM];
@@ -71,14 +71,14 @@ fn put_small(
     words: &mut [u16],
     room: usize,
 ) -> Placing
-    requires { ⌜ length (now words) ≡ min (length (now strip) / 2) 68101 ⌝ ∗ ⌜ room ≤ 9000 ⌝ }
-    ensures { λ a. ⌜ PutWords (now (strip .entry)) (now (outline .entry)) wanted room a (now (words .exit)) ⌝ }
+    requires { ⌜ length (now words) ≡ min (length (now strip) / 2) 68102 ⌝ ∗ ⌜ room ≤ 9000 ⌝ }
+    ensures { λ a. ⌜ PutWords (now (strip .entry)) (now (outline .entry)) wanted (min room mostWork) a (now (words .exit)) ⌝ }
 {
     let mut work = [0u16; SMALL_WORK];
     put_with(strip, outline, wanted, words, &mut work[..room])
 }
 
-// Lends as much of a work buffer as any outline needs.
+// Lends as much of a work buffer as is used of one.
 fn put_large(
     strip: &[u8],
     outline: &[u8],
@@ -86,15 +86,15 @@ fn put_large(
     words: &mut [u16],
     room: usize,
 ) -> Placing
-    requires { ⌜ length (now words) ≡ min (length (now strip) / 2) 68101 ⌝ }
-    ensures { λ a. ⌜ PutWords (now (strip .entry)) (now (outline .entry)) wanted room a (now (words .exit)) ⌝ }
+    requires { ⌜ length (now words) ≡ min (length (now strip) / 2) 68102 ⌝ }
+    ensures { λ a. ⌜ PutWords (now (strip .entry)) (now (outline .entry)) wanted (min room mostWork) a (now (words .exit)) ⌝ }
 {
     let mut work = [0u16; MOST_WORK];
     let n = lesser(room, MOST_WORK);
     put_with(strip, outline, wanted, words, &mut work[..n])
 }
 
-// The call on a copy of the strip, and the work buffer cleared. Where half of the work buffer has as many words as any outline needs, half
+// The call on a copy of the strip, and the work buffer cleared. Where half of the work buffer has as many words as are used of one, half
 // of it is lent. So the function calls itself, and not as the last thing that it does: the compiler takes no function with a large array
 // into such a one, else a call with a small work buffer would need as much stack as one with a large one.
 fn put_copy(
@@ -104,7 +104,7 @@ fn put_copy(
     words: &mut [u16],
     work: &mut [u8],
 ) -> Placing
-    requires { ⌜ length (now words) ≡ min (length (now strip) / 2) 68101 ⌝ }
+    requires { ⌜ length (now words) ≡ min (length (now strip) / 2) 68102 ⌝ }
     ensures { λ a. ⌜ PutCopy (now (strip .entry)) (now (outline .entry)) wanted (now (work .entry)) a (now (words .exit)) (now (work .exit)) ⌝ }
 {
     let n = work.len() / 2;
@@ -128,7 +128,7 @@ fn put_back(
     words: &mut [u16],
     work: &mut [u8],
 ) -> Placing
-    requires { ⌜ length (now words) ≡ min (length (now strip) / 2) 68101 ⌝ }
+    requires { ⌜ length (now words) ≡ min (length (now strip) / 2) 68102 ⌝ }
     ensures { λ a. ⌜ PutBack (now (strip .entry)) (now (outline .entry)) wanted (now (work .entry)) a (now (strip .exit)) (now (work .exit)) ⌝ }
 {
     match put_copy(strip, outline, wanted, words, work) {

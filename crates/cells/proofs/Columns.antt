@@ -3,7 +3,7 @@
 -- Assumes nothing.
 use mathlib.Core.Path.{_≡_, refl, ap, sym, _∙_}
 use mathlib.Core.List.{List}
-use Prim.Native.Nat.{ℕ, suc, _+_, _-_, _*_, _≤_, _<_, min}
+use Prim.Native.Nat.{ℕ, suc, _+_, _-_, _*_, _≤_, _<_}
 use native.Mathlib.Omega.{arith}
 use native.Mathlib.Numerals.{add-one}
 use native.Mathlib.Nat.{mul-le-mul-left}
@@ -21,20 +21,21 @@ use Rattle.geom.proofs.Extent.{rounded-up, rounded-end}
 use Rattle.outline.specs.Vertex.{Lent, BoundsOf}
 use Rattle.entries.specs.Edges.{NextAt}
 use Rattle.section.specs.Slabs.{Kept}
-use Rattle.column.specs.Rows.{Working, ColumnOf}
+use Rattle.column.specs.Rows.{Working}
+use Rattle.gapcolumn.specs.Gap.{GapColumnOf}
 use Rattle.cells.specs.Put.{PutRuns}
 use Rattle.cells.specs.Columns.{pairAt, pairs, PutColumn, columnRuns}
 use Rattle.cells.proofs.Pairs.{column-runs}
 use Rattle.geom.proofs.RunWords.{rows-length}
 
-pub piece-runs : (o : List ℕ) (t R : ℕ) → pieceRuns o t R ≡ listFrom (columnRuns o t R) 0 (columnsFor (extentX o t) R)
+pub piece-runs : (o : List ℕ) (t R g : ℕ) → pieceRuns o t R g ≡ listFrom (columnRuns o t R g) 0 (columnsFor (extentX o t + g) R)
 unfolding pieceRuns columnRuns
-piece-runs o t R = refl
+piece-runs o t R g = refl
 
--- The columns before i are done, with k runs in all, where g gives the runs of each column. Column i begins at `from`; where `from`
--- is w there is none.
+-- The columns before i are done, with k runs in all, where g gives the runs of each column. Column i begins at `from`; where that is w
+-- or more there is none.
 pub record Putting (g : ℕ → List Rows) (w R : ℕ) (out₀ out : List ℕ) (i from k : ℕ) : Type 0 where
-  pub place : from ≡ min (i * R) w
+  pub place : from ≡ i * R
   pub few : k ≤ 8000 * i
   pub long : length out ≡ length out₀
   pub count : k + countRuns (listFrom g i (columnsFor w R - i)) ≡ countRuns (listFrom g 0 (columnsFor w R))
@@ -48,22 +49,20 @@ putting-start g w R out =
     record { place = omega arith; few = omega arith; long = refl; count = rw e (omega arith); rest = λ f. rw e }
 
 module _ {g : ℕ → List Rows} {w R : ℕ} {out₀ out : List ℕ} {i from k : ℕ} (p : Putting g w R out₀ out i from k) where
-  pub column-start : from < w → from ≡ i * R
-  column-start l = omega (arith, p .place)
+  pub column-number : 1 ≤ R → i ≤ from
+  column-number r = omega (arith, p .place, mul-le-mul-left i r)
 
-  pub column-number : 1 ≤ R → from < w → i ≤ from
-  column-number r l = omega (arith, column-start l, mul-le-mul-left i r)
-
-  pub putting-next : {out' : List ℕ} {to k' : ℕ} {rs : List Rows} → 1 ≤ R → from < w → to ≡ min (from + R) w → length rs ≤ 8000 →
-      rs ≡ g i → PutColumn i rs out out' k k' → Putting g w R out₀ out' (i + 1) to k'
+  pub putting-next : {out' : List ℕ} {k' : ℕ} {rs : List Rows} → 1 ≤ R → from < w → length rs ≤ 8000 →
+      rs ≡ g i → PutColumn i rs out out' k k' → Putting g w R out₀ out' (i + 1) (from + R) k'
   unfolding countRuns runsWords listFrom
-  putting-next {out'} {to} {k'} {rs} r l e f same s =
-      go (columnsFor w R - (i + 1)) (omega (arith, rounded-up w R i r (omega (arith, column-start l)))) refl
+  putting-next {out'} {k'} {rs} r l f same s =
+      go (columnsFor w R - (i + 1)) (omega (arith, rounded-up w R i r (omega (arith, p .place)))) refl
     where
-      go : (left : ℕ) → columnsFor w R - i ≡ suc left → columnsFor w R - (i + 1) ≡ left → Putting g w R out₀ out' (i + 1) to k'
+      go : (left : ℕ) → columnsFor w R - i ≡ suc left → columnsFor w R - (i + 1) ≡ left →
+          Putting g w R out₀ out' (i + 1) (from + R) k'
       go left d c =
           record {
-            place = omega (arith, column-start l);
+            place = omega (arith, p .place);
             few = omega (arith, s .count, p .few);
             long = s .long ∙ p .long;
             count = rw c all;
@@ -100,11 +99,11 @@ module _ {g : ℕ → List Rows} {w R : ℕ} {out₀ out : List ℕ} {i from k :
         λ h. ap (λ (m : ℕ). sets out (3 * k) (runsWords i (listFrom g i m))) (sym d) ∙ p .rest (omega (arith, z)),
       )
 
-pub all-put : {o : List ℕ} {t R w : ℕ} {out₀ out : List ℕ} {i from k : ℕ} → w ≡ extentX o t →
-    Putting (columnRuns o t R) w R out₀ out i from k → 1 ≤ R → w ≤ from → PutRuns o t R out₀ out k
-all-put {o} {t} {R} {w} {out₀} e p r l =
-    let same : listFrom (columnRuns o t R) 0 (columnsFor w R) ≡ pieceRuns o t R =
-    ap (λ (x : ℕ). listFrom (columnRuns o t R) 0 (columnsFor x R)) e ∙ sym (piece-runs o t R) in
+pub all-put : {o : List ℕ} {t R g w : ℕ} {out₀ out : List ℕ} {i from k : ℕ} → w ≡ extentX o t →
+    Putting (columnRuns o t R g) (w + g) R out₀ out i from k → 1 ≤ R → w + g ≤ from → PutRuns o t R g out₀ out k
+all-put {o} {t} {R} {g} {w} {out₀} e p r l =
+    let same : listFrom (columnRuns o t R g) 0 (columnsFor (w + g) R) ≡ pieceRuns o t R g =
+    ap (λ (x : ℕ). listFrom (columnRuns o t R g) 0 (columnsFor (x + g) R)) e ∙ sym (piece-runs o t R g) in
     let q = putting-end p r l in
     record {
       count = q .0 ∙ ap countRuns same;
@@ -125,13 +124,13 @@ at-work e0 e1 ed f0 f1 el eh kept next =
       next = next;
     }
 
--- one column more, as `column` leaves it
-pub column-put : {o : List ℕ} {x₀ x₁ y₀ y₁ : ℕ} → Lent o → BoundsOf o x₀ x₁ y₀ y₁ → {t R w : ℕ} → t ≤ 3 →
+-- one column more, as `gap_column` leaves it
+pub column-put : {o : List ℕ} {x₀ x₁ y₀ y₁ : ℕ} → Lent o → BoundsOf o x₀ x₁ y₀ y₁ → {t R g w : ℕ} → t ≤ 3 →
     KeepsOrder (turned o t) → w ≡ extentX o t → 1 ≤ R → {out₀ out : List ℕ} {i from k : ℕ} →
-    Putting (columnRuns o t R) w R out₀ out i from k → from < w → {to : ℕ} → to ≡ min (from + R) w →
-    {h0 h1 d l h : List ℕ} {n a b m c : ℕ} → ColumnOf (turned o t) from to h0 h1 d l h n a b m c →
+    Putting (columnRuns o t R g) (w + g) R out₀ out i from k → from < w + g →
+    {h0 h1 d l h : List ℕ} {n a b m c : ℕ} → GapColumnOf (turned o t) from R g w h0 h1 d l h n a b m c →
     {out' : List ℕ} {k' : ℕ} → PutColumn i (pairs l h n) out out' k k' →
-    Putting (columnRuns o t R) w R out₀ out' (i + 1) to k'
-column-put lent bounds {R = R} turn keeps wide r {i = i} p s ends {l = l} {h = h} {n = n} c q =
-    putting-next p r s ends (omega (arith, c .few, length-listFrom (pairAt l h) 0 n))
-    (column-runs lent bounds R i turn keeps wide (column-start p s) ends c) q
+    Putting (columnRuns o t R g) (w + g) R out₀ out' (i + 1) (from + R) k'
+column-put lent bounds {R = R} {g = g} turn keeps wide r {i = i} p s {l = l} {h = h} {n = n} c q =
+    putting-next p r s (omega (arith, c .few, length-listFrom (pairAt l h) 0 n))
+    (column-runs lent bounds R g i turn keeps wide r (p .place) c) q

@@ -3,26 +3,29 @@
 -- Assumes nothing.
 use mathlib.Core.Path.{_≡_, ap, sym, subst, _∙_}
 use mathlib.Core.Bool.{true}
-use mathlib.Core.Logic.{_↔_, Iff·trans}
+use mathlib.Core.Logic.{_↔_, Iff·trans, ⊎-elim}
 use mathlib.Core.List.{List}
-use Prim.Native.Nat.{ℕ, zero, suc, _+_, _*_, _≤_, _<_, min}
+use Prim.Native.Nat.{ℕ, zero, suc, _+_, _*_, _-_, _≤_, _<_, min}
 use native.Mathlib.Omega.{arith}
 use native.Mathlib.Nat.{zero-add}
 use lib.ListN.{getD}
 use Rattle.laws.proofs.Lists.{listFrom-at, length-listFrom}
-use Rattle.defs.specs.Meaning.Outline.{sides, KeepsOrder}
-use Rattle.defs.specs.Meaning.Turn.{turned, extentX, extentY}
+use Rattle.defs.specs.Meaning.Outline.{vx, sides, KeepsOrder}
+use Rattle.defs.specs.Meaning.Turn.{turned, greatest, extentX, extentY}
 use Rattle.defs.specs.Computing.Test.{listFrom}
 use Rattle.defs.specs.Computing.Cells.{Rows, coveredb, inRows}
 use Rattle.geom.proofs.Stretches.{Among, among-of, of-among}
 use Rattle.geom.proofs.RunLists.{ApartFrom, place, among-at, place-holds, stretches-only}
 use Rattle.geom.proofs.RunLists.{Apart as ApartList}
-use Rattle.geom.proofs.PieceCells.{within}
+use Rattle.geom.proofs.Strip.{lt-or-le}
+use Rattle.geom.proofs.Extent.{sides-turned}
+use Rattle.geom.proofs.Windows.{gap-rows}
+use Rattle.geom.proofs.Computed.{gap-covered}
+use Rattle.geom.proofs.PieceCells.{within, gap-within}
 use Rattle.join.specs.Runs.{Apart, Holds}
 use Rattle.outline.specs.Vertex.{Lent, BoundsOf}
-use Rattle.slabs.specs.Slab.{InUnits}
-use Rattle.column.specs.Rows.{ColumnOf}
-use Rattle.column.proofs.Units.{column-rows}
+use Rattle.geom.specs.Units.{InUnits, Raised}
+use Rattle.gapcolumn.specs.Gap.{GapColumnOf}
 use Rattle.cells.specs.Columns.{pairAt, pairs, columnRuns}
 
 pair-is : (l h : List ℕ) (n j : ℕ) → j < n → getD (pairs l h n) j (pairAt l h 0) ≡ pairAt l h j
@@ -65,24 +68,30 @@ module _ {l h : List ℕ} {n : ℕ} (a : Apart l h n) where
           (subst (λ (m : ℕ). s .which < m) (sym (length-listFrom (pairAt l h) 0 n)) (s .among))
           (subst (λ (r : Rows). r .low ≤ y) e (s .low)) (subst (λ (r : Rows). y < r .high) e (s .high))
 
--- Column i, from `from` to `to`. No unit column past the extent w covers a row, so cutting the last column at w takes none away.
+-- Column i, from `from` on. No unit column past the extent w covers a row, so cutting the last columns at w takes none away.
 module _
     {o : List ℕ}
     {x₀ x₁ y₀ y₁ : ℕ}
     (lent : Lent o)
     (bounds : BoundsOf o x₀ x₁ y₀ y₁)
     {t : ℕ}
-    (R i : ℕ)
-    {w from to : ℕ}
+    (R g i : ℕ)
+    {w from : ℕ}
     (turn : t ≤ 3)
     (keeps : KeepsOrder (turned o t))
     (wide : w ≡ extentX o t)
-    (starts : from ≡ i * R)
-    (ends : to ≡ min (from + R) w) where
+    (least : 1 ≤ R)
+    (starts : from ≡ i * R) where
   some : 0 < sides o
   some = omega (arith, lent .some)
 
-  units-cut : (y : ℕ) → InUnits (turned o t) from to y ↔ InUnits (turned o t) (i * R) ((i + 1) * R) y
+  some-turned : 0 < sides (turned o t)
+  some-turned = subst (λ (n : ℕ). 0 < n) (sym (sides-turned o t)) some
+
+  abbrev Units : ℕ → Type 0
+  Units = InUnits (turned o t) (i * R - g) ((i + 1) * R)
+
+  units-cut : (y : ℕ) → InUnits (turned o t) (from - g) (min (from + R) w) y ↔ Units y
   units-cut y = (
     λ u. record { k = u .k; from = omega (arith, u .from); to = omega (arith, u .to); there = u .there },
     λ u.
@@ -90,18 +99,23 @@ module _
         record { k = u .k; from = omega (arith, u .from); to = omega (arith, u .to, c .column); there = u .there },
   )
 
-  covered-rows : (y : ℕ) → InUnits (turned o t) from to y ↔ ((y < extentY o t) × (coveredb (turned o t) R i y ≡ true))
-  covered-rows y = (
-    λ u. (
-      within o t 1 keeps some (omega arith) (u .k) y (u .there) .row,
-      column-rows lent bounds t turn keeps R i y .0 (units-cut y .0 u),
-    ),
-    λ p. units-cut y .1 (column-rows lent bounds t turn keeps R i y .1 (p .1)),
+  raised-cut : (y : ℕ) → Raised g (InUnits (turned o t) (from - g) (min (from + R) w)) y ↔ Raised g Units y
+  raised-cut y = (
+    λ z. record { row = z .row; holds = units-cut (z .row) .0 (z .holds); below = z .below; rows = z .rows },
+    λ z. record { row = z .row; holds = units-cut (z .row) .1 (z .holds); below = z .below; rows = z .rows },
   )
 
-  pub column-runs : {h0 h1 d l h : List ℕ} {r a b m c : ℕ} → ColumnOf (turned o t) from to h0 h1 d l h r a b m c →
-      pairs l h r ≡ columnRuns o t R i
+  covered-rows : (y : ℕ) → Raised g Units y ↔ ((y < extentY o t + g) × (coveredb (turned o t) R g i y ≡ true))
+  covered-rows y =
+      let d = gap-covered (turned o t) keeps some-turned R g i y least in
+      let w = gap-rows (turned o t) R g i y least in (
+        λ z. let c = w .1 z in (gap-within o t R g keeps some least i y c .row, d .1 c),
+        λ p. w .0 (d .0 (p .1)),
+      )
+
+  pub column-runs : {h0 h1 d l h : List ℕ} {r a b m c : ℕ} → GapColumnOf (turned o t) from R g w h0 h1 d l h r a b m c →
+      pairs l h r ≡ columnRuns o t R g i
   unfolding columnRuns
   column-runs {l = l} {h = h} {r = r} c =
-      stretches-only (coveredb (turned o t) R i) (extentY o t) (pairs l h r) (pairs-apart (c .runs))
-      (λ y. Iff·trans (pairs-hold (c .runs) y) (Iff·trans (c .rows y) (covered-rows y)))
+      stretches-only (coveredb (turned o t) R g i) (extentY o t + g) (pairs l h r) (pairs-apart (c .runs))
+      (λ y. Iff·trans (pairs-hold (c .runs) y) (Iff·trans (c .rows y) (Iff·trans (raised-cut y) (covered-rows y))))

@@ -30,5 +30,5 @@ pub record PutColumn (i : ℕ) (rs : List Rows) (out out' : List ℕ) (k r : ℕ
   pub long : length out' ≡ length out
 
 -- the runs of column i
-unfoldable pub columnRuns : List ℕ → ℕ → ℕ → ℕ → List Rows
-columnRuns o t R i = stretches (coveredb (turned o t) R i) (extentY o t) []
+unfoldable pub columnRuns : List ℕ → ℕ → ℕ → ℕ → ℕ → List Rows
+columnRuns o t R g i = stretches (coveredb (turned o t) R g i) (extentY o t + g) []

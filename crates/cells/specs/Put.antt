@@ -13,7 +13,7 @@ pub record Resolution (R : ℕ) : Type 0 where
   pub most : R ≤ 400
 
 -- k is the number of runs; where all of them fit, they stand at the start of the output, and the rest is kept
-pub record PutRuns (o : List ℕ) (t R : ℕ) (out out' : List ℕ) (k : ℕ) : Type 0 where
-  pub count : k ≡ countRuns (pieceRuns o t R)
-  pub written : 3 * k ≤ length out → out' ≡ sets out 0 (runsWords 0 (pieceRuns o t R))
+pub record PutRuns (o : List ℕ) (t R g : ℕ) (out out' : List ℕ) (k : ℕ) : Type 0 where
+  pub count : k ≡ countRuns (pieceRuns o t R g)
+  pub written : 3 * k ≤ length out → out' ≡ sets out 0 (runsWords 0 (pieceRuns o t R g))
   pub long : length out' ≡ length out

@@ -1,7 +1,7 @@
 // The runs of an outline in a turn, all columns, as words.
 
 ghost use mathlib.Core.Path.{_≡_};
-ghost use Prim.Native.Nat.{_+_, _*_, _≤_, _<_, min};
+ghost use Prim.Native.Nat.{_+_, _*_, _≤_, _<_};
 ghost use lib.ListN.{length};
 ghost use lib.Seq.{sets};
 ghost use Rattle.defs.specs.Meaning.Outline.{KeepsOrder};
@@ -21,17 +21,6 @@ fn nothing() -> Filled
         runs: 0,
         slab: cuts::none(),
     }
-}
-
-// Where the column that begins at `from` ends: after r units, or at w.
-fn end_of(from: u16, r: u16, w: u16) -> u16
-    requires { ⌜ from ≤ w ⌝ }
-    ensures { λ to. ⌜ to ≡ min (from + r) w ⌝ }
-{
-    if w - from < r {
-        return w;
-    }
-    from + r
 }
 
 // The n runs of column i, three words a run, from word `at` of the output.
@@ -63,11 +52,11 @@ fn put_if_fits(lows: &[u16], highs: &[u16], n: usize, i: u16, out: &mut [u16], k
     e
 }
 
-// The runs of all columns, three words a run as far as they fit, and how many they are.
-pub fn put_runs(o: &[u16], b: Bounds, t: u16, r: u16, w: u16, out: &mut [u16]) -> usize
+// The runs of all columns with the gap, three words a run as far as they fit, and how many they are.
+pub fn put_runs(o: &[u16], b: Bounds, t: u16, r: u16, gap: u16, w: u16, out: &mut [u16]) -> usize
     requires { ⌜ Lent (now o) ⌝ ∗ ⌜ BoundsOf (now o) (b .left) (b .right) (b .foot) (b .head) ⌝
-        ∗ ⌜ (t ≤ 3) × (w ≡ extentX (now o) t) ⌝ ∗ ⌜ KeepsOrder (turned (now o) t) ⌝ ∗ ⌜ Resolution r ⌝ }
-    ensures { λ k. ⌜ PutRuns (now (o .entry)) t r (now (out .entry)) (now (out .exit)) k ⌝ }
+        ∗ ⌜ (t ≤ 3) × (w ≡ extentX (now o) t) ⌝ ∗ ⌜ KeepsOrder (turned (now o) t) ⌝ ∗ ⌜ Resolution r × (gap ≤ 400) ⌝ }
+    ensures { λ k. ⌜ PutRuns (now (o .entry)) t r gap (now (out .entry)) (now (out .exit)) k ⌝ }
 {
     let mut h0 = [0u64; numbers::MOST_VERTICES];
     let mut h1 = [0u64; numbers::MOST_VERTICES];
@@ -76,18 +65,20 @@ pub fn put_runs(o: &[u16], b: Bounds, t: u16, r: u16, w: u16, out: &mut [u16]) -
     let mut g1 = [0u64; numbers::MOST_VERTICES];
     let mut lows = [0u16; numbers::RUN_ROOM];
     let mut highs = [0u16; numbers::RUN_ROOM];
+    let reach = w + gap;
     let mut f = nothing();
     let mut k = 0;
     let mut i = 0;
-    let mut from = 0;
-    while from < w {
-        let to = end_of(from, r, w);
-        f = column::column(
+    let mut start = 0;
+    while start < reach {
+        f = gapcolumn::gap_column(
             o,
             b,
             t,
-            from,
-            to,
+            start,
+            r,
+            gap,
+            w,
             f.slab,
             &mut h0,
             &mut h1,
@@ -98,7 +89,7 @@ pub fn put_runs(o: &[u16], b: Bounds, t: u16, r: u16, w: u16, out: &mut [u16]) -
             &mut highs,
         );
         k = put_if_fits(&lows, &highs, f.runs, i, out, k);
-        from = to;
+        start += r;
         i += 1;
     }
     k

@@ -19,7 +19,7 @@ use Rattle.chains.specs.Answers.{RunFrom, RunTo, NoRun, NoChain}
 use Rattle.chains.proofs.Steps.{start, step, chain-most, within-most, goes-on-at}
 
 -- the words that a chain begins with
-head-column : (s : List ℕ) (c : ℕ) → c < columnsOf s → getD s (4 + c) 0 ≡ firstOf s c
+head-column : (s : List ℕ) (c : ℕ) → c < columnsOf s → getD s (5 + c) 0 ≡ firstOf s c
 head-column s c l = simp (lt-ltb c (columnsOf s) l)
 
 head-free : (s : List ℕ) (c : ℕ) → columnsOf s ≤ c → getD s 3 0 ≡ firstOf s c
@@ -84,7 +84,7 @@ pub record OnColumn (s : List ℕ) (Q c k at m : ℕ) : Type 0 where
   pub most : m ≤ widthOf s + 1
 
 module _ {s : List ℕ} {Q c : ℕ} where
-  pub column-start : {g : Shape} {at : ℕ} → Sized s g → c < g .columns → at ≡ getD s (4 + c) 0 →
+  pub column-start : {g : Shape} {at : ℕ} → Sized s g → c < g .columns → at ≡ getD s (5 + c) 0 →
       OnColumn s Q c 0 at 0
   unfolding above
   column-start z l e =

@@ -4,7 +4,8 @@ use mathlib.Core.Path.{_≡_}
 use mathlib.Core.List.{List}
 use Prim.Native.Nat.{ℕ, zero, suc, _≤_, _<_}
 use lib.ListN.{length}
-use Rattle.defs.specs.Meaning.Strip.{Limits, Length, widthOf, resolutionOf, columnsOf, firstOf, nextOf, InColumn, IsFree}
+use Rattle.defs.specs.Meaning.Limits.{mostGap}
+use Rattle.defs.specs.Meaning.Strip.{Limits, Length, widthOf, resolutionOf, columnsOf, firstOf, nextOf, InColumn, IsFree, gapOf}
 
 -- Record i of chain c: of column c's chain, or, for c = N, of the free records'.
 unfoldable pub recAt : List ℕ → ℕ → ℕ → ℕ
@@ -39,6 +40,7 @@ pub record Place (s : List ℕ) (Q r : ℕ) : Type 0 where
 pub record Formed (s : List ℕ) : Type 0 where
   pub Q : ℕ
   pub limits : Limits (widthOf s) (resolutionOf s) (columnsOf s)
+  pub gap : gapOf s ≤ mostGap
   pub long : Length (columnsOf s) Q (length s)
   pub chains : (c : ℕ) → c ≤ columnsOf s → Counted s Q c
   pub each : (r : ℕ) → 1 ≤ r → r ≤ Q → Place s Q r

@@ -117,6 +117,7 @@ module _ {Q : ℕ} {s s' : List ℕ} (w : WellFormed s Q) (n : Renumbered Q s s'
       record {
         long = rw (n .columns, n .long) (w .long);
         limits = rw (n .width, n .resolution, n .columns) (w .limits);
+        gap = rw (n .gap) (w .gap);
         free =
             λ y c.
             let t = of-chain (columnsOf s) y (omega arith) (subst (λ (k : ℕ). Chained s' y (firstOf s' k)) (n .columns) c) in
@@ -150,7 +151,7 @@ module _ {Q : ℕ} {s s' : List ℕ} (w : WellFormed s Q) (n : Renumbered Q s s'
         rows-carried m e,
       )
 
-module _ {W R N words Q : ℕ} {runs : ℕ → List Rows} {s s' : List ℕ} (long : Length N Q words) (a : Left W R N words runs s)
+module _ {W R N g words Q : ℕ} {runs : ℕ → List Rows} {s s' : List ℕ} (long : Length N Q words) (a : Left W R N g words runs s)
     (n : Renumbered Q s s') where
   Q-is : recordsIn s ≡ Q
   Q-is = ap (λ (k : ℕ). recordsOf k (length s)) (a .columns) ∙ ap (recordsOf N) (a .long) ∙ records-are N Q words long
@@ -169,7 +170,7 @@ module _ {W R N words Q : ℕ} {runs : ℕ → List Rows} {s s' : List ℕ} (lon
       ap (λ (r : ℕ). rowsOf s' (chainBy (nextOf s') (recordsIn s) r)) (n .first k h') ∙
       rows-carried formed-before n (recordsIn s) (formed-before .ends k h')
 
-  pub may-leave : Left W R N words runs s'
+  pub may-leave : Left W R N g words runs s'
   unfolding Question5
   may-leave =
       record {
@@ -178,6 +179,7 @@ module _ {W R N words Q : ℕ} {runs : ℕ → List Rows} {s s' : List ℕ} (lon
         width = n .width ∙ a .width;
         resolution = n .resolution ∙ a .resolution;
         columns = n .columns ∙ a .columns;
+        gap = n .gap ∙ a .gap;
         holds = λ k h. runs-same k h ∙ a .holds k h;
       }
 

@@ -18,7 +18,7 @@ use Rattle.defs.specs.declared.Asking.{Asking}
 use Rattle.defs.specs.declared.Asking.the-variants.{Found, Refused as NotFound}
 use Rattle.defs.specs.declared.Committing.{Committing}
 use Rattle.defs.specs.declared.Committing.the-variants.{Committed, Refused as NotCommitted}
-use Rattle.defs.specs.Meaning.Strip.{widthOf, resolutionOf, columnsOf}
+use Rattle.defs.specs.Meaning.Strip.{widthOf, resolutionOf, columnsOf, gapOf}
 use Rattle.defs.specs.Computing.Test.{ask}
 use Rattle.defs.specs.Computing.Cells.{mostRuns}
 use Rattle.defs.specs.Computing.Words.{wellFormedb, recordsOf, columnsRuns}
@@ -33,9 +33,9 @@ use Rattle.claims.proofs.PlaceAnswers.{refused-none, found-there, best-
 use Rattle.claims.proofs.CommitAnswers.{none-early, free-there}
 
 -- a longer work buffer has room too
-room-more : (o : List ℕ) (mask R n n' : ℕ) → n ≤ n' → q12b o mask R n ≡ true → q12b o mask R n' ≡ true
+room-more : (o : List ℕ) (mask R g n n' : ℕ) → n ≤ n' → q12b o mask R g n ≡ true → q12b o mask R g n' ≡ true
 unfolding q12b
-room-more o mask R n n' h e = le-leb (3 * mostRuns o mask R 4) n' (omega (arith, leb-true (3 * mostRuns o mask R 4) n e))
+room-more o mask R g n n' h e = le-leb (3 * mostRuns o mask R g 4) n' (omega (arith, leb-true (3 * mostRuns o mask R g 4) n e))
 
 isFound : Asking → Bool
 isFound (Found p) = true
@@ -66,14 +66,14 @@ shown-refused (NotPlaced u) r e = ap NotPlaced (sym (same-refusal e))
     same-refusal : NotFound r ≡ NotFound u → r ≡ u
     same-refusal e = ap refusalIn e
 
-module _ {W R N words : ℕ} {s : List ℕ} (k : Kept W R N words s) (o : List ℕ) (mask n : ℕ) (p : Position)
+module _ {W R N g words : ℕ} {s : List ℕ} (k : Kept W R N g words s) (o : List ℕ) (mask n : ℕ) (p : Position)
     (there : placeAnswer s o mask n ≡ Placed p) (n' : ℕ) where
   -- the checks before 18, in the position's turn alone
-  alone : Passes o (2 ^ p .turn) R n
+  alone : Passes o (2 ^ p .turn) R g n
   alone =
-      passes-alone o mask R n (p .turn) (best-there k o mask n p there .fits .allowed) (found-there k o mask n p there .passes)
+      passes-alone o mask R g n (p .turn) (best-there k o mask n p there .fits .allowed) (found-there k o mask n p there .passes)
 
-  on-and-free : q18b W R N (columnsRuns s) o p ≡ true
+  on-and-free : q18b W R N g (columnsRuns s) o p ≡ true
   on-and-free =
       let f = best-there k o mask n p there .fits in
       free-there k o p n alone .1 (record { on-strip = f .on-strip; free = f .free })
@@ -81,14 +81,14 @@ module _ {W R N words : ℕ} {s : List ℕ} (k : Kept W R N words s) (o : List �
   pub commit-found : (commitAnswer s o p n' ≡ Committed) ⊎ ((commitAnswer s o p n' ≡ NotCommitted (refusal 12 1)) × (n' < n))
   commit-found = go (commitAnswer s o p n') (commit-fate-on k o p n')
     where
-      shorter : q12b o (2 ^ p .turn) R n' ≡ false → Dec (n' < n) → n' < n
+      shorter : q12b o (2 ^ p .turn) R g n' ≡ false → Dec (n' < n) → n' < n
       shorter e (yes l) = l
-      shorter e (no l) = absurd (false≢true (sym e ∙ room-more o (2 ^ p .turn) R n n' (omega arith) (alone .room)))
+      shorter e (no l) = absurd (false≢true (sym e ∙ room-more o (2 ^ p .turn) R g n n' (omega arith) (alone .room)))
 
-      go : (a : Committing) → CommitFate W R N (recordsOf N words) (columnsRuns s) o p n' a →
+      go : (a : Committing) → CommitFate W R N g (recordsOf N words) (columnsRuns s) o p n' a →
           (a ≡ Committed) ⊎ ((a ≡ NotCommitted (refusal 12 1)) × (n' < n))
       go a (early m e) =
-          absurd (omega (arith, sym (none-early W R N (recordsOf N words) (columnsRuns s) o p n alone) ∙ e))
+          absurd (omega (arith, sym (none-early W R N g (recordsOf N words) (columnsRuns s) o p n alone) ∙ e))
       go a (short e7 e12) = inr (refl, shorter e12 (decLt n' n))
       go a (taken e7 e12 e18) = absurd (false≢true (sym e18 ∙ on-and-free))
       go a (full e7 e12 e18 e14) = absurd (false≢true (sym e14 ∙ found-there k o mask n p there .room))
@@ -109,13 +109,13 @@ placed-formed s o mask n p e = go (wellFormedb s) refl e
   where
     go : (b : Bool) → wellFormedb s ≡ b →
         (ask b (NotPlaced (refusal 5 0)) λ _.
-        placeOn (widthOf s) (resolutionOf s) (columnsOf s) (recordsOf (columnsOf s) (length s)) (columnsRuns s) o mask n) ≡ Placed p →
-        wellFormedb s ≡ true
+        placeOn (widthOf s) (resolutionOf s) (columnsOf s) (gapOf s) (recordsOf (columnsOf s) (length s)) (columnsRuns s) o mask n) ≡
+        Placed p → wellFormedb s ≡ true
     go true w e = w
     go false w e = absurd (refused-none e)
 
-itself : (s : List ℕ) → wellFormedb s ≡ true → Kept (widthOf s) (resolutionOf s) (columnsOf s) (length s) s
-itself s w = record { well-formed = w; long = refl; width = refl; resolution = refl; columns = refl }
+itself : (s : List ℕ) → wellFormedb s ≡ true → Kept (widthOf s) (resolutionOf s) (columnsOf s) (gapOf s) (length s) s
+itself s w = record { well-formed = w; long = refl; width = refl; resolution = refl; columns = refl; gap = refl }
 
 pub commit-as-asked : Commit-as-asked
 unfolding Commit-as-asked askAnswer

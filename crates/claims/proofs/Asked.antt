@@ -4,17 +4,17 @@ use mathlib.Core.Path.{_≡_, refl, sym, ap, subst, _∙_}
 use mathlib.Core.Logic.{_⊎_, inl, inr, ⊎-elim}
 use mathlib.Core.Bool.{Bool, true, false, _&&_, false≢true}
 use mathlib.Core.List.{List, []}
-use Prim.Native.Nat.{ℕ, _≤_}
-use lib.Dec.{eqb}
+use Prim.Native.Nat.{ℕ, zero, suc, _≤_}
+use lib.Dec.{eqb, eqb·suc-zero}
 use Rattle.defs.specs.declared.Refusal.{Refusal}
 use Rattle.defs.specs.Answer.{Outcome}
-use Rattle.defs.specs.Meaning.Question.{Question3, Question16, Question17, Question7, Question8, Question10, Question11}
+use Rattle.defs.specs.Meaning.Question.{Question3, Question16, Question17, Question21, Question7, Question8, Question10, Question11}
 use Rattle.defs.specs.Computing.Test.{ask}
 use Rattle.defs.specs.Computing.Cells.{ordersb}
-use Rattle.defs.specs.Computing.Words.{widthb, resolutionb, columnsb, limitsNo}
+use Rattle.defs.specs.Computing.Words.{widthb, resolutionb, columnsb, gapb, limitsNo, figuresNo}
 use Rattle.defs.specs.Computing.Calls.{refusal, q7b, q8b, q11b, outlineNo}
 use Rattle.laws.proofs.Tests.{Decides}
-use Rattle.laws.proofs.Questions.{question-3, question-16, question-17, question-8}
+use Rattle.laws.proofs.Questions.{question-3, question-16, question-17, question-21, question-8}
 use Rattle.geom.proofs.Checks.{question-10, question-11, has-side}
 use Rattle.claims.specs.Numbers.{Questions, asks, grants, Answers, One-answer}
 
@@ -64,6 +64,14 @@ three true false n refuse rest = refl
 three true true false refuse rest = refl
 three true true true refuse rest = refl
 
+-- 21 after them
+gap-last : {A : Type 0} (n : ℕ) (b : Bool) (refuse : ℕ → A) (rest : A) →
+    (ask (eqb (ask (eqb n 0) n λ _. ask b 21 λ _. 0) 0) (refuse (ask (eqb n 0) n λ _. ask b 21 λ _. 0)) λ _. rest) ≡
+    (ask (eqb n 0) (refuse n) λ _. ask b (refuse 21) λ _. rest)
+gap-last zero true refuse rest = refl
+gap-last zero false refuse rest = refl
+gap-last (suc n) b refuse rest = rw (eqb·suc-zero n, eqb·suc-zero n) refl
+
 -- 7 in two tests, as a sheet and a list ask it
 six : {A : Type 0} (e b7 b8 b9 b10 b11 : Bool) (refuse : ℕ → A) (rest : A) →
     (ask (eqb (ask e 7 λ _. ask b7 7 λ _. ask b8 8 λ _. ask b9 9 λ _. ask b10 10 λ _. ask b11 11 λ _. 0) 0)
@@ -90,6 +98,20 @@ module _ {A : Type 0} (f : A → Outcome) (refuse : Refusal → A) (is : (n k : 
       (λ q3. step f (resolutionb R) _ (refuse (refusal 16 0)) _ 16 0 _ (is 16 0) (question-16 R)
       (λ q16. step f (columnsb N) _ (refuse (refusal 17 0)) _ 17 0 _ (is 17 0) (question-17 N)
       (λ q17. h q3 q16 q17))))
+
+  -- and 21
+  pub figures-asked : (W R N g : ℕ) (rest : A) (qs : Questions) → Answers qs (f rest) →
+      Answers (asks 3 0 (Question3 W) λ _. asks 16 0 (Question16 R) λ _. asks 17 0 (Question17 N) λ _. asks 21 0 (Question21 g) λ _. qs)
+      (f (ask (eqb (figuresNo W R N g) 0) (refuse (refusal (figuresNo W R N g) 0)) λ _. rest))
+  unfolding figuresNo
+  figures-asked W R N g rest qs h =
+      subst
+      (λ (a : A).
+      Answers (asks 3 0 (Question3 W) λ _. asks 16 0 (Question16 R) λ _. asks 17 0 (Question17 N) λ _. asks 21 0 (Question21 g) λ _. qs)
+      (f a))
+      (sym (gap-last (limitsNo W R N) (gapb g) (λ n. refuse (refusal n 0)) rest))
+      (limits-asked W R N _ _
+      (λ _ _ _. step f (gapb g) _ (refuse (refusal 21 0)) _ 21 0 _ (is 21 0) (question-21 g) (λ _. h)))
 
   -- 7 in the form in which the call asks it, then 8 to 11 of the outline that it finds, which is o
   module _

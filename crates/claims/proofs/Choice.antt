@@ -202,7 +202,7 @@ past-end [] j l = refl
 past-end (x ∷ xs) zero l = absurd (omega arith)
 past-end (x ∷ xs) (suc j) l = past-end xs j (omega arith)
 
-module _ {W R N words : ℕ} {runs : ℕ → List Rows} {s s' : List ℕ} (a : Left W R N words runs s) (b : Left W R N words runs s') where
+module _ {W R N g words : ℕ} {runs : ℕ → List Rows} {s s' : List ℕ} (a : Left W R N g words runs s) (b : Left W R N g words runs s') where
   same-columns : columnsOf s' ≡ columnsOf s
   same-columns = b .columns ∙ sym (a .columns)
 
@@ -368,6 +368,7 @@ module _ {W R N words : ℕ} {runs : ℕ → List Rows} {s s' : List ℕ} (a : L
         width = b .width ∙ sym (a .width);
         resolution = b .resolution ∙ sym (a .resolution);
         columns = same-columns;
+        gap = b .gap ∙ sym (a .gap);
         to = to;
         back = back;
         there-and-back = there;
@@ -390,8 +391,8 @@ pub only-numbers-open : OnlyNumbersOpen
 unfolding OpenLeaves PlaceLeaves CommitLeaves LayLeaves
 only-numbers-open =
     record {
-      open-leaves = λ {W} {R} {N} {Q} l x y. renumbered-by (x .strip) (y .strip) Q l;
+      open-leaves = λ {W} {R} {N} {g} {Q} l x y. renumbered-by (x .strip) (y .strip) Q l;
       place-leaves = λ {Q} l x y. renumbered-by (x .strip) (y .strip) Q l;
       commit-leaves = λ {Q} l x y. renumbered-by (x .strip) (y .strip) Q l;
-      lay-leaves = λ {Q} l x y. renumbered-by (x .strip) (y .strip) Q l;
+      lay-leaves = λ {g} {Q} l x y. renumbered-by (x .strip) (y .strip) Q l;
     }

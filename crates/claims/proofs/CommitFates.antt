@@ -13,29 +13,29 @@ use Rattle.defs.specs.Computing.Test.{ask}
 use Rattle.defs.specs.Computing.Cells.{Rows}
 use Rattle.defs.specs.Computing.Calls.{refusal, q12b, q14b, q18b, outlineNo, commitOn}
 
-module _ (W R N Q : ℕ) (held : List (List Rows)) (o : List ℕ) (p : Position) (words : ℕ) where
+module _ (W R N g Q : ℕ) (held : List (List Rows)) (o : List ℕ) (p : Position) (words : ℕ) where
   -- the first of 7 to 11 that gets "no" in the position's turn
   abbrev pub turn-no : ℕ
   turn-no = outlineNo o (leb (p .turn) mostTurn) (2 ^ p .turn) R
 
   abbrev pub room : Bool
-  room = q12b o (2 ^ p .turn) R words
+  room = q12b o (2 ^ p .turn) R g words
 
   pub data CommitFate : Committing → Type 0 where
     early : (n : ℕ) → turn-no ≡ suc n → CommitFate (Refused (refusal (suc n) 1))
     short : turn-no ≡ 0 → room ≡ false → CommitFate (Refused (refusal 12 1))
-    taken : turn-no ≡ 0 → room ≡ true → q18b W R N held o p ≡ false → CommitFate (Refused (refusal 18 0))
+    taken : turn-no ≡ 0 → room ≡ true → q18b W R N g held o p ≡ false → CommitFate (Refused (refusal 18 0))
     full :
-        turn-no ≡ 0 → room ≡ true → q18b W R N held o p ≡ true → q14b W R Q held o p ≡ false →
+        turn-no ≡ 0 → room ≡ true → q18b W R N g held o p ≡ true → q14b W R g Q held o p ≡ false →
         CommitFate (Refused (refusal 14 1))
-    entered : turn-no ≡ 0 → room ≡ true → q18b W R N held o p ≡ true → q14b W R Q held o p ≡ true → CommitFate Committed
+    entered : turn-no ≡ 0 → room ≡ true → q18b W R N g held o p ≡ true → q14b W R g Q held o p ≡ true → CommitFate Committed
 
-  pub commit-fate : CommitFate (commitOn W R N Q held o p words)
+  pub commit-fate : CommitFate (commitOn W R N g Q held o p words)
   unfolding commitOn
-  commit-fate = go turn-no refl room refl (q18b W R N held o p) refl (q14b W R Q held o p) refl
+  commit-fate = go turn-no refl room refl (q18b W R N g held o p) refl (q14b W R g Q held o p) refl
     where
-      go : (n : ℕ) → turn-no ≡ n → (b : Bool) → room ≡ b → (c : Bool) → q18b W R N held o p ≡ c → (d : Bool) →
-          q14b W R Q held o p ≡ d →
+      go : (n : ℕ) → turn-no ≡ n → (b : Bool) → room ≡ b → (c : Bool) → q18b W R N g held o p ≡ c → (d : Bool) →
+          q14b W R g Q held o p ≡ d →
           CommitFate (ask (eqb n 0) (Refused (refusal n 1)) λ _.
           ask b (Refused (refusal 12 1)) λ _.
           ask c (Refused (refusal 18 0)) λ _. ask d (Refused (refusal 14 1)) λ _. Committed)

@@ -1,5 +1,5 @@
 -- Demand 2, cells: the runs that cover writes hold the cells of the turned outline, are its runs, and stand by column then row. A granted
--- cover has passed questions 16 and 7 to 12, so its rows are the covered ones, and the words of a run stand at three times its number.
+-- cover has passed questions 16, 21 and 7 to 12, so its rows are the covered ones, and the words of a run stand at three times its number.
 -- Assumes nothing.
 use mathlib.Core.Path.{_≡_, refl, sym, subst, _∙_}
 use mathlib.Core.Logic.{_↔_, _⊎_, inl, inr, ⊎-elim, Iff·symm}
@@ -12,18 +12,18 @@ use lib.ListN.{length, getD}
 use Rattle.defs.specs.declared.Covering.the-variants.{Runs, Refused}
 use Rattle.defs.specs.Meaning.Limits.{mostTurn}
 use Rattle.defs.specs.Meaning.Turn.{turned}
-use Rattle.defs.specs.Meaning.Cell.{Covered, Cells, Run}
+use Rattle.defs.specs.Meaning.Cell.{CoveredGap, Cells, Run}
 use Rattle.defs.specs.Computing.Test.{ask}
 use Rattle.defs.specs.Computing.Cells.{Rows, inRows, pieceRuns, countRuns}
-use Rattle.defs.specs.Computing.Words.{resolutionb}
+use Rattle.defs.specs.Computing.Words.{resolutionb, gapb}
 use Rattle.defs.specs.Computing.Calls.{refusal, q12b, outlineNo, coverAnswer, runsWords, coverOutput}
 use Rattle.laws.proofs.Questions.{question-16, question-7, question-9-turn}
 use Rattle.geom.proofs.Stretches.{among-of}
 use Rattle.geom.proofs.RunLists.{Apart, place, place-holds, stretch-is-run, stretches-rise}
 use Rattle.geom.proofs.Counting.{numberOf, number-below, spot, spot-number, none}
 use Rattle.geom.proofs.RunWords.{run-words, spot-words, next-number}
-use Rattle.geom.proofs.PieceCells.{piece-cells}
-use Rattle.geom.proofs.Checks.{keeps-decides, none-no-is, has-side, runs-apart}
+use Rattle.geom.proofs.PieceCells.{piece-cells, runs-apart}
+use Rattle.geom.proofs.Checks.{keeps-decides, none-no-is, has-side}
 use Rattle.geom.proofs.OneTurn.{orders-one}
 use Rattle.claims.specs.Demand2.{InRun, CellsAre, Demand2-cells}
 
@@ -85,49 +85,52 @@ module _
       rises i k i' k' l e = rw (e .0, e .1) (stretches-rise none 0 (getD held i' []) k (apart i') (rw (e .1) at l))
 
 -- a cover call is granted where no question gets "no", and then says how many runs there are
-pub record Granted (o : List ℕ) (t R words n : ℕ) : Type 0 where
+pub record Granted (o : List ℕ) (t R g words n : ℕ) : Type 0 where
   pub resolution : resolutionb R ≡ true
   pub none-no : outlineNo o (leb t mostTurn) (2 ^ t) R ≡ 0
-  pub room : q12b o (2 ^ t) R words ≡ true
-  pub count : n ≡ countRuns (pieceRuns o t R)
+  pub room : q12b o (2 ^ t) R g words ≡ true
+  pub count : n ≡ countRuns (pieceRuns o t R g)
 
-pub granted : (o : List ℕ) (t R words n : ℕ) → Runs n ≡ coverAnswer o t R words → Granted o t R words n
+pub granted : (o : List ℕ) (t R g words n : ℕ) → Runs n ≡ coverAnswer o t R g words → Granted o t R g words n
 unfolding coverAnswer
-granted o t R words n e = go (resolutionb R) refl (outlineNo o (leb t mostTurn) (2 ^ t) R) refl (q12b o (2 ^ t) R words) refl e
+granted o t R g words n e =
+    go (resolutionb R) refl (gapb g) (outlineNo o (leb t mostTurn) (2 ^ t) R) refl (q12b o (2 ^ t) R g words) refl e
   where
-    go : (b : Bool) → resolutionb R ≡ b → (m : ℕ) → outlineNo o (leb t mostTurn) (2 ^ t) R ≡ m → (c : Bool) →
-        q12b o (2 ^ t) R words ≡ c →
+    go : (b : Bool) → resolutionb R ≡ b → (x : Bool) (m : ℕ) → outlineNo o (leb t mostTurn) (2 ^ t) R ≡ m → (c : Bool) →
+        q12b o (2 ^ t) R g words ≡ c →
         Runs n ≡
         (ask b (Refused (refusal 16 0)) λ _.
+        ask x (Refused (refusal 21 0)) λ _.
         ask (eqb m 0) (Refused (refusal m 1)) λ _.
-        ask c (Refused (refusal 12 1)) λ _. Runs (countRuns (pieceRuns o t R))) →
-        Granted o t R words n
-    go false e3 m e7 c e12 e = let z : _≡_ {A = ℕ} 0 1 = cc in absurd (omega arith)
-    go true e3 (suc m) e7 c e12 e =
+        ask c (Refused (refusal 12 1)) λ _. Runs (countRuns (pieceRuns o t R g))) →
+        Granted o t R g words n
+    go false e3 x m e7 c e12 e = let z : _≡_ {A = ℕ} 0 1 = cc in absurd (omega arith)
+    go true e3 false m e7 c e12 e = let z : _≡_ {A = ℕ} 0 1 = cc in absurd (omega arith)
+    go true e3 true (suc m) e7 c e12 e =
         let f = rw (eqb·suc-zero m) at e in let z : _≡_ {A = ℕ} 0 1 = cc in absurd (omega arith)
-    go true e3 zero e7 false e12 e = let z : _≡_ {A = ℕ} 0 1 = cc in absurd (omega arith)
-    go true e3 zero e7 true e12 e = record { resolution = e3; none-no = e7; room = e12; count = cc }
+    go true e3 true zero e7 false e12 e = let z : _≡_ {A = ℕ} 0 1 = cc in absurd (omega arith)
+    go true e3 true zero e7 true e12 e = record { resolution = e3; none-no = e7; room = e12; count = cc }
 
 -- what is then written
-cells-are : (o : List ℕ) (t R : ℕ) (rest : List ℕ) → resolutionb R ≡ true → outlineNo o (leb t mostTurn) (2 ^ t) R ≡ 0 →
-    CellsAre o t R (countRuns (pieceRuns o t R)) (runsWords 0 (pieceRuns o t R) ++ rest)
-cells-are o t R rest e3 e7 =
+cells-are : (o : List ℕ) (t R g : ℕ) (rest : List ℕ) → resolutionb R ≡ true → outlineNo o (leb t mostTurn) (2 ^ t) R ≡ 0 →
+    CellsAre o t R g (countRuns (pieceRuns o t R g)) (runsWords 0 (pieceRuns o t R g) ++ rest)
+cells-are o t R g rest e3 e7 =
     record {
-      cells = words-cells (Covered (turned o t) R) (pieceRuns o t R) rest (runs-apart o t R) same;
-      runs = words-run (Covered (turned o t) R) (pieceRuns o t R) rest (runs-apart o t R) same;
-      in-order = words-in-order (Covered (turned o t) R) (pieceRuns o t R) rest (runs-apart o t R) same;
+      cells = words-cells (CoveredGap (turned o t) R g) (pieceRuns o t R g) rest (runs-apart o t R g) same;
+      runs = words-run (CoveredGap (turned o t) R g) (pieceRuns o t R g) rest (runs-apart o t R g) same;
+      in-order = words-in-order (CoveredGap (turned o t) R g) (pieceRuns o t R g) rest (runs-apart o t R g) same;
     }
   where
-    same : (i j : ℕ) → Covered (turned o t) R i j ↔ (inRows (getD (pieceRuns o t R) i []) j ≡ true)
+    same : (i j : ℕ) → CoveredGap (turned o t) R g i j ↔ (inRows (getD (pieceRuns o t R g) i []) j ≡ true)
     same i j =
         let q = none-no-is o (leb t mostTurn) (2 ^ t) R .0 e7 in
         Iff·symm
-        (piece-cells o t R
+        (piece-cells o t R g
         (keeps-decides o t .0 (sym (orders-one o t (question-9-turn t .0 (q .2))) ∙ q .3))
         (has-side o (question-7 o .0 (q .0))) (question-16 R .0 e3 .at-least) i j)
 
 pub demand2-cells : Demand2-cells
 unfolding Demand2-cells coverOutput
-demand2-cells o t R n out out' s =
-    let g = granted o t R (length out) n (s .answer) in
-    rw (s .output, g .count) (cells-are o t R _ (g .resolution) (g .none-no))
+demand2-cells o t R g n out out' s =
+    let h = granted o t R g (length out) n (s .answer) in
+    rw (s .output, h .count) (cells-are o t R g _ (h .resolution) (h .none-no))

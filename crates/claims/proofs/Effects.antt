@@ -16,7 +16,7 @@ use Rattle.defs.specs.declared.Committing.{Committing}
 use Rattle.defs.specs.declared.Committing.the-variants.{Committed, Refused as NotCommitted}
 use Rattle.defs.specs.Meaning.Outline.{sides, KeepsOrder}
 use Rattle.defs.specs.Meaning.Turn.{turned}
-use Rattle.defs.specs.Meaning.Strip.{resolutionOf, columnsOf}
+use Rattle.defs.specs.Meaning.Strip.{resolutionOf, columnsOf, gapOf}
 use Rattle.defs.specs.Meaning.Placing.{cellsAt, OnStrip}
 use Rattle.defs.specs.Meaning.Question.{Question10}
 use Rattle.defs.specs.Computing.Cells.{Rows, inRows}
@@ -47,23 +47,24 @@ pub data Effect (W R N : ℕ) (s s' : List ℕ) (c : Call) : Type 0 where
       (o : List ℕ) (p : Position) → Puts c o p → ((v : List ℕ) (q : Position) → Puts c v q → (o ≡ v) × (p ≡ q)) →
       Changes c → Entry W R N s s' o p → Effect W R N s s' c
 
-module _ {W R N words : ℕ} {s : List ℕ} (k : Kept W R N words s) (s' : List ℕ) where
+module _ {W R N g words : ℕ} {s : List ℕ} (k : Kept W R N g words s) (s' : List ℕ) where
   module _ (o : List ℕ) (p : Position) (e : Entry W R N s s' o p) where
-    rows : (i : ℕ) → getD (columnsRuns s') i [] ≡ getD (entered W R (columnsRuns s) o p) i []
+    rows : (i : ℕ) → getD (columnsRuns s') i [] ≡ getD (entered W R g (columnsRuns s) o p) i []
     rows i = go (decLt i (columnsOf s'))
       where
-        go : Dec (i < columnsOf s') → getD (columnsRuns s') i [] ≡ getD (entered W R (columnsRuns s) o p) i []
+        go : Dec (i < columnsOf s') → getD (columnsRuns s') i [] ≡ getD (entered W R g (columnsRuns s) o p) i []
         go (yes q) =
             column-at s' i q ∙ e .leaves .holds i (subst (λ (n : ℕ). i < n) (e .leaves .columns) q) ∙
-            ap (λ (a : ℕ). getD (entered a (resolutionOf s) (columnsRuns s) o p) i []) (k .width) ∙
-            ap (λ (a : ℕ). getD (entered W a (columnsRuns s) o p) i []) (k .resolution)
+            ap (λ (a : ℕ). getD (entered a (resolutionOf s) (gapOf s) (columnsRuns s) o p) i []) (k .width) ∙
+            ap (λ (a : ℕ). getD (entered W a (gapOf s) (columnsRuns s) o p) i []) (k .resolution) ∙
+            ap (λ (a : ℕ). getD (entered W R a (columnsRuns s) o p) i []) (k .gap)
         go (no q) =
             column-past s' i (omega arith) ∙
-            sym (entered-past W R (columnsRuns s) o p i (omega (arith, table k .long, e .leaves .columns, k .columns)))
+            sym (entered-past W R g (columnsRuns s) o p i (omega (arith, table k .long, e .leaves .columns, k .columns)))
 
-    pub entry-cells : Same (In (columnsRuns s')) (λ i j. In (columnsRuns s) i j ⊎ cellsAt R o p i j)
+    pub entry-cells : Same (In (columnsRuns s')) (λ i j. In (columnsRuns s) i j ⊎ cellsAt W R N g o p i j)
     entry-cells i j =
-        let cells = entered-cells W R N (columnsRuns s) o p (e .keeps) (e .side) (resolution-least k) (table k) (e .on-strip) i j in (
+        let cells = entered-cells W R N g (columnsRuns s) o p (e .keeps) (e .side) (resolution-least k) (table k) i j in (
           λ a. cells .0 (subst (λ (rs : List Rows). inRows rs j ≡ true) (rows i) a),
           λ c. subst (λ (rs : List Rows). inRows rs j ≡ true) (sym (rows i)) (cells .1 c),
         )
@@ -75,8 +76,8 @@ module _ {W R N words : ℕ} {s : List ℕ} (k : Kept W R N words s) (s' : List 
       let f = found-there k o mask n p there in
       let b = best-there k o mask n p there in
       record {
-        keeps = asked o mask R _ (f .passes) .q10 (p .turn) (b .fits .allowed);
-        side = some-side o mask R _ (f .passes);
+        keeps = asked o mask R g _ (f .passes) .q10 (p .turn) (b .fits .allowed);
+        side = some-side o mask R g _ (f .passes);
         on-strip = b .fits .on-strip;
         leaves = l;
       }
@@ -86,8 +87,8 @@ module _ {W R N words : ℕ} {s : List ℕ} (k : Kept W R N words s) (s' : List 
   commit-entry o p n there l =
       let f = enters-there k o p n there in
       record {
-        keeps = turn-keeps o (p .turn) R _ (f .passes);
-        side = some-side o _ R _ (f .passes);
+        keeps = turn-keeps o (p .turn) R g _ (f .passes);
+        side = some-side o _ R g _ (f .passes);
         on-strip = free-there k o p n (f .passes) .0 (f .free) .on-strip;
         leaves = l;
       }

@@ -18,13 +18,14 @@ use Rattle.defs.specs.declared.Laying.the-variants.{Laid, Refused as NotLaid}
 use Rattle.defs.specs.Answer.{fateWords}
 use Rattle.defs.specs.Meaning.Sheet.{Piece, sheetW, sheetR, sheetN}
 use Rattle.defs.specs.Meaning.Job.{Used, CountPlaced}
+use Rattle.defs.specs.Meaning.Question.{Question21}
 use Rattle.defs.specs.Computing.Cells.{Rows}
-use Rattle.defs.specs.Computing.Words.{limitsNo, lengthb, recordsOf}
+use Rattle.defs.specs.Computing.Words.{limitsNo, figuresNo, gapb, lengthb, recordsOf}
 use Rattle.defs.specs.Computing.Calls.{refusal, cleared, openAnswer, Left, OpenLeaves, OpenStep}
 use Rattle.defs.specs.Computing.Sheets.{q1b, q2b, sheetNo, pieceRecords, sheetPieces}
 use Rattle.defs.specs.Computing.Lay.{fateOf, placedIn, usedIn, layEntries, layAnswer, layOutput, LayLeaves, LayStep}
 use Rattle.laws.proofs.Tests.{asked}
-use Rattle.laws.proofs.Questions.{limits-none, length-decides}
+use Rattle.laws.proofs.Questions.{question-21, figures-none, length-decides}
 use Rattle.laws.proofs.Entries.{length-entriesFrom}
 use Rattle.sheets.proofs.Asking.{some-none}
 use Rattle.sheets.proofs.Passing.{Held, none-held}
@@ -37,14 +38,15 @@ use Rattle.claims.proofs.PlaceLists.{place-demand3-holds}
 use Rattle.claims.proofs.LayTotals.{fateAt, placed-counted, used-reached, entries-words}
 use Rattle.claims.proofs.LayStrips.{answerAt, fates-are, Strips, strips}
 
--- a granted lay has passed 4, and the other questions of its sheet
-fourth : (b : List ℕ) (t : Bool) → sheetNo b t ≡ none → t ≡ true
+-- a granted lay has passed 21 and 4, and the other questions of its sheet
+gap-and-length : (b : List ℕ) (gap fourth : Bool) → sheetNo b gap fourth ≡ none → (gap ≡ true) × (fourth ≡ true)
 unfolding sheetNo
-fourth b t e =
+gap-and-length b gap fourth e =
     let e1 = asked (q1b b) _ e some-none in
     let e2 = asked (q2b b) _ (e1 .1) some-none in
     let e3 = asked (eqb (limitsNo (sheetW b) (sheetR b) (sheetN b)) 0) _ (e2 .1) some-none in
-    asked t _ (e3 .1) some-none .0
+    let e21 = asked gap _ (e3 .1) some-none in
+    (e21 .0, asked fourth _ (e21 .1) some-none .0)
 
 lay-refused : {t : Totals} (r : Refusal) → ¬ (NotLaid r ≡ Laid t)
 lay-refused r e = let z : _≡_ {A = ℕ} 0 1 = cc in omega arith
@@ -52,37 +54,40 @@ lay-refused r e = let z : _≡_ {A = ℕ} 0 1 = cc in omega arith
 same-totals : {t u : Totals} → Laid t ≡ Laid u → t ≡ u
 same-totals e = cc
 
-pub record LayGranted (b : List ℕ) (strip out work : ℕ) (t : Totals) : Type 0 where
+pub record LayGranted (b : List ℕ) (g strip out work : ℕ) (t : Totals) : Type 0 where
   pub held : Held b
   pub room : 4 * length (pieceRecords b) ≤ out
+  pub gap : gapb g ≡ true
   pub long : lengthb (sheetN b) strip ≡ true
   pub totals :
       t ≡
       record {
-        placed = placedIn (layEntries b strip work);
-        used = usedIn (sheetR b) (sheetPieces b) (layEntries b strip work);
+        placed = placedIn (layEntries b g strip work);
+        used = usedIn (sheetR b) (sheetPieces b) (layEntries b g strip work);
       }
 
-pub lay-granted : (b : List ℕ) (strip out work : ℕ) (t : Totals) → Laid t ≡ layAnswer b strip out work → LayGranted b strip out work t
+pub lay-granted : (b : List ℕ) (g strip out work : ℕ) (t : Totals) → Laid t ≡ layAnswer b g strip out work →
+    LayGranted b g strip out work t
 unfolding layAnswer
-lay-granted b strip out work t e =
-    let h = not-refused (sheetNo b (lengthb (sheetN b) strip)) (sym e) lay-refused in
-    let four = fourth b (lengthb (sheetN b) strip) (h .0) in
+lay-granted b g strip out work t e =
+    let h = not-refused (sheetNo b (gapb g) (lengthb (sheetN b) strip)) (sym e) lay-refused in
+    let passed = gap-and-length b (gapb g) (lengthb (sheetN b) strip) (h .0) in
     let e15 = asked (leb (4 * length (pieceRecords b)) out) _ (h .1) (lay-refused (refusal 15 0)) in
     record {
-      held = none-held b (rw four at (h .0));
+      held = none-held b (rw (passed .0, passed .1) at (h .0));
       room = leb-true (4 * length (pieceRecords b)) out (e15 .0);
-      long = four;
+      gap = passed .0;
+      long = passed .1;
       totals = sym (same-totals (e15 .1));
     }
 
 -- an opened strip is one with the empty table
-pub opened-step : (W R N : ℕ) (s s' : List ℕ) → limitsNo W R N ≡ 0 → lengthb N (length s) ≡ true →
-    Left W R N (length s) (λ k. getD (replicate N []) k []) s' → OpenStep W R N s Opened s'
+pub opened-step : (W R N g : ℕ) (s s' : List ℕ) → figuresNo W R N g ≡ 0 → lengthb N (length s) ≡ true →
+    Left W R N g (length s) (λ k. getD (replicate N []) k []) s' → OpenStep W R N g s Opened s'
 unfolding openAnswer OpenLeaves
-opened-step W R N s s' limits four l =
+opened-step W R N g s s' figures four l =
     record {
-      answer = rw (limits, four) refl;
+      answer = rw (figures, four) refl;
       strip =
           record {
             well-formed = l .well-formed;
@@ -90,11 +95,13 @@ opened-step W R N s s' limits four l =
             width = l .width;
             resolution = l .resolution;
             columns = l .columns;
+            gap = l .gap;
             holds = λ k h. l .holds k h ∙ column-none N k h;
           };
     }
 
-module _ {b s out work : List ℕ} {t : Totals} {s' out' work' : List ℕ} (x : LayStep b s out work (Laid t) s' out' work') where
+module _ {b : List ℕ} {g : ℕ} {s out work : List ℕ} {t : Totals} {s' out' work' : List ℕ}
+    (x : LayStep b g s out work (Laid t) s' out' work') where
   abbrev W : ℕ
   W = sheetW b
 
@@ -114,15 +121,19 @@ module _ {b s out work : List ℕ} {t : Totals} {s' out' work' : List ℕ} (x : 
   empty = replicate N []
 
   abbrev entries : List Entry
-  entries = layEntries b (length s) (length work)
+  entries = layEntries b g (length s) (length work)
 
-  pub given : LayGranted b (length s) (length out) (length work) t
-  given = lay-granted b (length s) (length out) (length work) t (x .answer)
+  pub given : LayGranted b g (length s) (length out) (length work) t
+  given = lay-granted b g (length s) (length out) (length work) t (x .answer)
 
-  pub between : Strips W R N Q (length s) work empty ps s'
+  pub small : Question21 g
+  small = question-21 g .0 (given .gap)
+
+  pub between : Strips W R N g Q (length s) work empty ps s'
   unfolding LayLeaves
   between =
-      strips (given .held .holds .limits) (length-decides N (length s) .0 (given .long)) work empty ps s' (empty-writable W N Q)
+      strips (given .held .holds .limits) small (length-decides N (length s) .0 (given .long)) work empty ps s'
+      (empty-writable W N Q)
       (x .strip)
 
   abbrev call : ℕ → PlaceCall
@@ -131,28 +142,29 @@ module _ {b s out work : List ℕ} {t : Totals} {s' out' work' : List ℕ} (x : 
         outline = pieceAt ps m .outline;
         mask = pieceAt ps m .mask;
         work = work;
-        answer = answerAt W R N Q (length work) empty ps m;
+        answer = answerAt W R N g Q (length work) empty ps m;
         work-after = cleared work;
       }
 
   abbrev calls : PlaceCalls
   calls = record { lent = s; count = length ps; call = call; strip = between .strip }
 
-  abbrev trace : PlaceTrace W R N calls
+  abbrev trace : PlaceTrace W R N g calls
   trace =
       record {
         open-step =
-            opened-step W R N s (between .strip 0) (limits-none W R N .1 (given .held .holds .limits)) (given .long) (between .first);
+            opened-step W R N g s (between .strip 0) (figures-none W R N g .1 (given .held .holds .limits, small)) (given .long)
+            (between .first);
         place-step = between .step;
       }
 
   entries-long : length entries ≡ length ps
   unfolding layEntries
-  entries-long = length-entriesFrom W R N Q (length work) 1 empty ps
+  entries-long = length-entriesFrom W R N g Q (length work) 1 empty ps
 
   fates : fateAt entries ≡ λ m. fateOf (call m .answer)
   unfolding layEntries
-  fates = λ i m. fates-are W R N Q (length work) 1 empty ps m i
+  fates = λ i m. fates-are W R N g Q (length work) 1 empty ps m i
 
   pub output : (m i : ℕ) → m < length ps → i < 4 → getD out' (4 * m + i) 0 ≡ getD (fateWords (fateOf (call m .answer))) i 0
   unfolding layOutput
@@ -167,7 +179,7 @@ module _ {b s out work : List ℕ} {t : Totals} {s' out' work' : List ℕ} (x : 
   pub placed : CountPlaced (λ m. fateOf (call m .answer)) (length ps) (t .placed)
   placed = rw (given .totals, ← fates, ← entries-long) (placed-counted entries)
 
-  abbrev pub lays-list : LaysList b s t s' out' work
+  abbrev pub lays-list : LaysList b g s t s' out' work
   lays-list =
       record {
         pieces = ps;
@@ -187,8 +199,8 @@ module _ {b s out work : List ℕ} {t : Totals} {s' out' work' : List ℕ} (x : 
 
 pub lay-is-a-list : Lay-is-a-list
 unfolding Lay-is-a-list
-lay-is-a-list b s out work t s' out' work' x = lays-list x
+lay-is-a-list b g s out work t s' out' work' x = lays-list x
 
 pub lay-demand3 : Lay-demand3
 unfolding Lay-demand3 PlaceDemand3-holds
-lay-demand3 b s out work t s' out' work' x = (lays-list x, place-demand3-holds _ _ _ _ (lays-list x .steps))
+lay-demand3 b g s out work t s' out' work' x = (lays-list x, place-demand3-holds _ _ _ _ _ (lays-list x .steps))

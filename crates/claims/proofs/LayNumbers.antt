@@ -43,31 +43,32 @@ chain-on b k (r ∷ rs) qs qs' a f h =
     (λ _. asks-on 11 k _ _ _ a
     (λ _. chain-on b (k + 1) rs qs qs' a f))))) h
 
-lay-on : (b : List ℕ) (strip out : ℕ) (G G' : ℕ → List ℕ → List ℕ → Type 0) (a : Outcome) →
+lay-on : (b : List ℕ) (g strip out : ℕ) (G G' : ℕ → List ℕ → List ℕ → Type 0) (a : Outcome) →
     ((Q : ℕ) (rs : List ℕ) → Length (sheetN b) Q strip → PieceChain b rs → G Q rs (a .values) → G' Q rs (a .values)) →
-    Answers (layQuestionsTo G b strip out) a → Answers (layQuestionsTo G' b strip out) a
+    Answers (layQuestionsTo G b g strip out) a → Answers (layQuestionsTo G' b g strip out) a
 unfolding layQuestionsTo Question4 Question6
-lay-on b strip out G G' a f h =
+lay-on b g strip out G G' a f h =
     asks-on 1 0 _ _ _ a
     (λ _. asks-on 2 0 _ _ _ a
     (λ _. asks-on 3 0 _ _ _ a
     (λ _. asks-on 16 0 _ _ _ a
     (λ _. asks-on 17 0 _ _ _ a
+    (λ _. asks-on 21 0 _ _ _ a
     (λ _. asks-on 4 0 _ _ _ a
     (λ (q4 : Question4 (sheetN b) strip). asks-on 6 0 _ _ _ a
     (λ (q6 : Question6 b). chain-on b 1 (q6 .0) _ _ a
     (asks-on 15 0 _ _ _ a
-    (λ _. grants-on (G (q4 .0) (q6 .0)) (G' (q4 .0) (q6 .0)) a (f (q4 .0) (q6 .0) (q4 .1) (q6 .1))))))))))) h
+    (λ _. grants-on (G (q4 .0) (q6 .0)) (G' (q4 .0) (q6 .0)) a (f (q4 .0) (q6 .0) (q4 .1) (q6 .1)))))))))))) h
 
-pub lay-asked : {b s out work s' out' work' : List ℕ} {a : Laying} → LayStep b s out work a s' out' work' →
-    Answers (layQuestions b (length s) (length out) (length work)) (laying a)
-lay-asked {b} {s} {out} {work} {s'} {out'} {work'} {a} x =
-    lay-on b (length s) (length out) TwoValues (LaidTotals b (length work)) (laying a) (λ Q rs long c. totals a x Q rs long c)
-    (subst (λ (r : Laying). Answers (layQuestionsTo TwoValues b (length s) (length out)) (laying r)) (sym (x .answer))
-    (lay-answers b (length s) (length out) (length work)))
+pub lay-asked : {b : List ℕ} {g : ℕ} {s out work s' out' work' : List ℕ} {a : Laying} → LayStep b g s out work a s' out' work' →
+    Answers (layQuestions b g (length s) (length out) (length work)) (laying a)
+lay-asked {b} {g} {s} {out} {work} {s'} {out'} {work'} {a} x =
+    lay-on b g (length s) (length out) TwoValues (LaidTotals b g (length work)) (laying a) (λ Q rs long c. totals a x Q rs long c)
+    (subst (λ (r : Laying). Answers (layQuestionsTo TwoValues b g (length s) (length out)) (laying r)) (sym (x .answer))
+    (lay-answers b g (length s) (length out) (length work)))
   where
-    totals : (r : Laying) → LayStep b s out work r s' out' work' → (Q : ℕ) (rs : List ℕ) → Length (sheetN b) Q (length s) →
-        PieceChain b rs → TwoValues Q rs (laying r .values) → LaidTotals b (length work) Q rs (laying r .values)
+    totals : (r : Laying) → LayStep b g s out work r s' out' work' → (Q : ℕ) (rs : List ℕ) → Length (sheetN b) Q (length s) →
+        PieceChain b rs → TwoValues Q rs (laying r .values) → LaidTotals b g (length work) Q rs (laying r .values)
     totals (Laid t) y Q rs long c v =
         let l = lays-list y in
         record {

@@ -8,7 +8,7 @@ pub mod PlaceAnswers
 pub mod CommitAnswers
 pub mod AskCommit
 pub mod Effects
-pub mod Apart
+pub mod Distance
 pub mod Whole
 pub mod PlaceLists
 pub mod CoverCells

@@ -12,7 +12,7 @@ use Rattle.defs.specs.declared.Totals.{Totals}
 use Rattle.defs.specs.declared.Laying.the-variants.{Laid}
 use Rattle.defs.specs.Answer.{Outcome, placing, asking, committing}
 use Rattle.defs.specs.Meaning.Cell.{Cells}
-use Rattle.defs.specs.Meaning.Strip.{Length, WellFormed, Holds, widthOf, resolutionOf, columnsOf}
+use Rattle.defs.specs.Meaning.Strip.{Length, WellFormed, Holds, widthOf, resolutionOf, columnsOf, gapOf}
 use Rattle.defs.specs.Meaning.Sheet.{Piece, sheetW, sheetR, sheetN}
 use Rattle.defs.specs.Meaning.Question.{Question5, Question7, Question8, Question9, Question10, Question11}
 use Rattle.defs.specs.Computing.Calls.{q9b}
@@ -34,9 +34,9 @@ use Rattle.claims.proofs.LayList.{lay-granted}
 use Rattle.claims.proofs.Asked.{after-yes}
 use Rattle.claims.proofs.OutlineNumbers.{place-answers, ask-answers, commit-answers}
 
-of-list : {W R N : ℕ} {x : Calls} → Trace W R N x → Demand3 W R N x
+of-list : {W R N g : ℕ} {x : Calls} → Trace W R N g x → Demand3 W R N g x
 unfolding Demand3-holds
-of-list {W} {R} {N} {x} t = demand3-holds W R N x t
+of-list {W} {R} {N} {g} {x} t = demand3-holds W R N g x t
 
 -- each call, on a strip that holds the cells C
 call-answers : (s s' : List ℕ) (C : Cells) → Same (Holds s) C → (c : Call) → Step c s s' → Answers (callQuestions s C c) (outcomeIn c)
@@ -51,29 +51,29 @@ call-answers s s' C same (commit-call c) t =
     subst (λ (a : Committing). Answers (commitQuestions s C (c .outline) (c .at) (length (c .work))) (committing a)) (sym (t .answer))
     (commit-answers s C (λ _. same) (c .outline) (c .at) (length (c .work)))
 
-pub list-answers : {W R N : ℕ} {x : Calls} → Trace W R N x → (m : ℕ) → m < x .count →
-    Answers (callQuestions (x .strip m) (Occupied R (x .call) m) (x .call m)) (outcomeIn (x .call m))
-list-answers {W} {R} {N} {x} t m h =
-    call-answers (x .strip m) (x .strip (suc m)) (Occupied R (x .call) m) (of-list t .strip-is m (omega arith) .holds) (x .call m)
+pub list-answers : {W R N g : ℕ} {x : Calls} → Trace W R N g x → (m : ℕ) → m < x .count →
+    Answers (callQuestions (x .strip m) (Occupied W R N g (x .call) m) (x .call m)) (outcomeIn (x .call m))
+list-answers {W} {R} {N} {g} {x} t m h =
+    call-answers (x .strip m) (x .strip (suc m)) (Occupied W R N g (x .call) m) (of-list t .strip-is m (omega arith) .holds) (x .call m)
     (t .step m h)
 
 -- a list of place calls alone
-of-places : {W R N : ℕ} {x : PlaceCalls} → PlaceTrace W R N x → PlaceDemand3 W R N x
+of-places : {W R N g : ℕ} {x : PlaceCalls} → PlaceTrace W R N g x → PlaceDemand3 W R N g x
 unfolding PlaceDemand3-holds
-of-places {W} {R} {N} {x} t = place-demand3-holds W R N x t
+of-places {W} {R} {N} {g} {x} t = place-demand3-holds W R N g x t
 
-places-answers : {W R N : ℕ} {x : PlaceCalls} → PlaceTrace W R N x → (m : ℕ) → m < x .count →
+places-answers : {W R N g : ℕ} {x : PlaceCalls} → PlaceTrace W R N g x → (m : ℕ) → m < x .count →
     Answers
-    (placeQuestions (x .strip m) (PlacedCells R (x .call) m) (x .call m .outline) (x .call m .mask) (length (x .call m .work)))
+    (placeQuestions (x .strip m) (PlacedCells W R N g (x .call) m) (x .call m .outline) (x .call m .mask) (length (x .call m .work)))
     (placing (x .call m .answer))
-places-answers {W} {R} {N} {x} t m h =
+places-answers {W} {R} {N} {g} {x} t m h =
     subst
     (λ (a : Placing).
     Answers
-    (placeQuestions (x .strip m) (PlacedCells R (x .call) m) (x .call m .outline) (x .call m .mask) (length (x .call m .work)))
+    (placeQuestions (x .strip m) (PlacedCells W R N g (x .call) m) (x .call m .outline) (x .call m .mask) (length (x .call m .work)))
     (placing a))
     (sym (t .place-step m h .answer))
-    (place-answers (x .strip m) (PlacedCells R (x .call) m) (λ _. of-places t .strip-is m (omega arith) .holds) (x .call m .outline)
+    (place-answers (x .strip m) (PlacedCells W R N g (x .call) m) (λ _. of-places t .strip-is m (omega arith) .holds) (x .call m .outline)
     (x .call m .mask) (length (x .call m .work)))
 
 -- 7 to 11 of a piece that passes them
@@ -105,7 +105,7 @@ each-at d (and-more s ss) (suc m) h = each-at d ss m (omega arith)
 -- where 5 and 7 to 11 get "yes", the answer is that of 12 to 14
 fate-left : (s : List ℕ) (C : Cells) (o : List ℕ) (mask words Q : ℕ) (a : Outcome) → Answers (placeQuestions s C o mask words) a →
     WellFormed s Q → Asked7to11 o mask (resolutionOf s) →
-    Answers (fateQuestions (widthOf s) (resolutionOf s) (columnsOf s) Q C o mask words) a
+    Answers (fateQuestions (widthOf s) (resolutionOf s) (columnsOf s) (gapOf s) Q C o mask words) a
 unfolding placeQuestions Question5
 fate-left s C o mask words Q a h w q =
     after-yes 11 1 _ _ a
@@ -113,17 +113,18 @@ fate-left s C o mask words Q a h w q =
     (after-yes 9 1 _ _ a (after-yes 8 1 _ _ a (after-yes 7 1 _ _ a (after-yes 5 0 _ _ a h (Q, w)) (q .q7)) (q .q8)) (q .q9)) (q .q10))
     (q .q11)
 
-fate-same : {W W' R R' N N' words words' : ℕ} (Q : ℕ) (C : Cells) (o : List ℕ) (mask : ℕ) (a : Outcome) →
-    W ≡ W' → R ≡ R' → N ≡ N' → words ≡ words' →
-    Answers (fateQuestions W R N Q C o mask words) a → Answers (fateQuestions W' R' N' Q C o mask words') a
-fate-same Q C o mask a ew er en el h = rw (← ew, ← er, ← en, ← el) h
+fate-same : {W W' R R' N N' g g' words words' : ℕ} (Q : ℕ) (C : Cells) (o : List ℕ) (mask : ℕ) (a : Outcome) →
+    W ≡ W' → R ≡ R' → N ≡ N' → g ≡ g' → words ≡ words' →
+    Answers (fateQuestions W R N g Q C o mask words) a → Answers (fateQuestions W' R' N' g' Q C o mask words') a
+fate-same Q C o mask a ew er en eg el h = rw (← ew, ← er, ← en, ← eg, ← el) h
 
-module _ {b s out work : List ℕ} {t : Totals} {s' out' work' : List ℕ} (x : LayStep b s out work (Laid t) s' out' work')
-    (l : LaysList b s t s' out' work) (Q : ℕ) (long : Length (sheetN b) Q (length s)) (m : ℕ) (h : m < length (l .pieces)) where
+module _ {b : List ℕ} {g : ℕ} {s out work : List ℕ} {t : Totals} {s' out' work' : List ℕ}
+    (x : LayStep b g s out work (Laid t) s' out' work')
+    (l : LaysList b g s t s' out' work) (Q : ℕ) (long : Length (sheetN b) Q (length s)) (m : ℕ) (h : m < length (l .pieces)) where
   held : Held b
-  held = lay-granted b (length s) (length out) (length work) t (x .answer) .held
+  held = lay-granted b g (length s) (length out) (length work) t (x .answer) .held
 
-  d : PlaceDemand3 (sheetW b) (sheetR b) (sheetN b) (l .list)
+  d : PlaceDemand3 (sheetW b) (sheetR b) (sheetN b) g (l .list)
   d = of-places (l .steps)
 
   in-list : m < l .list .count
@@ -146,13 +147,13 @@ module _ {b s out work : List ℕ} {t : Totals} {s' out' work' : List ℕ} (x : 
 
   pub lay-fate :
       Answers
-      (fateQuestions (sheetW b) (sheetR b) (sheetN b) Q (PlacedCells (sheetR b) (l .list .call) m) (l .list .call m .outline)
-      (l .list .call m .mask) (length work))
+      (fateQuestions (sheetW b) (sheetR b) (sheetN b) g Q (PlacedCells (sheetW b) (sheetR b) (sheetN b) g (l .list .call) m)
+      (l .list .call m .outline) (l .list .call m .mask) (length work))
       (placing (l .list .call m .answer))
   lay-fate =
       let i = d .strip-is m (omega (arith, in-list)) in
-      fate-same Q (PlacedCells (sheetR b) (l .list .call) m) (l .list .call m .outline) (l .list .call m .mask)
-      (placing (l .list .call m .answer)) (i .width) (i .resolution) (i .columns) (l .works m h)
+      fate-same Q (PlacedCells (sheetW b) (sheetR b) (sheetN b) g (l .list .call) m) (l .list .call m .outline) (l .list .call m .mask)
+      (placing (l .list .call m .answer)) (i .width) (i .resolution) (i .columns) (i .gap) (l .works m h)
       (fate-left (l .list .strip m) _ (l .list .call m .outline) (l .list .call m .mask) (length (l .list .call m .work)) Q
       (placing (l .list .call m .answer)) (places-answers (l .steps) m in-list)
       (subst (WellFormed (l .list .strip m)) Q-is (i .well-formed))

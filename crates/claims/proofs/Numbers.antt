@@ -22,13 +22,13 @@ pub demand1-numbers : Demand1-numbers
 demand1-numbers =
     record {
       open-asks =
-          λ {W} {R} {N} {s} x.
-          subst (λ (a : Opening). Answers (openQuestions W R N (length s)) (opening a)) (sym (x .answer))
-          (open-answers W R N (length s));
+          λ {W} {R} {N} {g} {s} x.
+          subst (λ (a : Opening). Answers (openQuestions W R N g (length s)) (opening a)) (sym (x .answer))
+          (open-answers W R N g (length s));
       cover-asks =
-          λ {o} {t} {R} {out} x.
-          subst (λ (a : Covering). Answers (coverQuestions o t R (length out)) (covering a)) (sym (x .answer))
-          (cover-answers o t R (length out));
+          λ {o} {t} {R} {g} {out} x.
+          subst (λ (a : Covering). Answers (coverQuestions o t R g (length out)) (covering a)) (sym (x .answer))
+          (cover-answers o t R g (length out));
       place-asks =
           λ {s} {o} {mask} {work} x.
           subst (λ (a : Placing). Answers (placeQuestions s (Holds s) o mask (length work)) (placing a)) (sym (x .answer))

@@ -19,26 +19,25 @@ use Rattle.tables.proofs.Tables.{In, Table}
 use Rattle.tables.proofs.Searching as searching
 use Rattle.tables.proofs.Records as records
 
-module _ (o : List ℕ) (mask R words : ℕ) (passes : Passes o mask R words) where
+module _ (o : List ℕ) (mask R g words : ℕ) (passes : Passes o mask R g words) where
   pub resolution-positive : 1 ≤ R
-  resolution-positive = passes-resolution o mask R words passes
+  resolution-positive = passes-resolution o mask R g words passes
 
-  pub asked : Asked7to12 o mask R words
-  asked = geom.checks o mask R words resolution-positive .0 passes
+  pub asked : Asked7to12 o mask R g words
+  asked = geom.checks o mask R g words resolution-positive .0 passes
 
   pub some-side : 0 < sides o
   some-side = has-side o (asked .q7)
 
   module _ (W N : ℕ) (held : List (List Rows)) (table : Table W N held) where
-    pub best-found : (p : Position) → bestBelow W R N held o mask 4 ≡ some p → Best W R N (In held) o mask p
-    best-found = searching.best-found W R N held o mask (asked .q10) some-side resolution-positive table
+    pub best-found : (p : Position) → bestBelow W R N g held o mask 4 ≡ some p → Best W R N g (In held) o mask p
+    best-found = searching.best-found W R N g held o mask (asked .q10) some-side resolution-positive table
 
-    pub none-found : bestBelow W R N held o mask 4 ≡ none → ¬ Question13 W R N (In held) o mask
-    none-found = searching.none-found W R N held o mask (asked .q10) some-side resolution-positive table
+    pub none-found : bestBelow W R N g held o mask 4 ≡ none → ¬ Question13 W R N g (In held) o mask
+    none-found = searching.none-found W R N g held o mask (asked .q10) some-side resolution-positive table
 
-    pub question-14 : (Q : ℕ) (p : Position) → Fits W R N (In held) o mask p →
-        Decides (q14b W R Q held o p) (Question14 R Q (In held) o p)
+    pub question-14 : (Q : ℕ) (p : Position) → Fits W R N g (In held) o mask p →
+        Decides (q14b W R g Q held o p) (Question14 W R N g Q (In held) o p)
     unfolding Question10
     question-14 Q p fits =
-        records.question-14 W R N Q held o p (asked .q10 (p .turn) (fits .allowed)) some-side resolution-positive table
-        (fits .on-strip)
+        records.question-14 W R N g Q held o p (asked .q10 (p .turn) (fits .allowed)) some-side resolution-positive table

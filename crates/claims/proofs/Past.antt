@@ -39,14 +39,14 @@ past k ws out out' long room is =
       stays = ap (drop k) is ∙ ap (λ (n : ℕ). drop n (ws ++ drop k out)) (sym long) ∙ drop-append-seam ws (drop k out);
     }
 
-pub cover-past : {o : List ℕ} {t R n : ℕ} {out out' : List ℕ} → CoverStep o t R out (Runs n) out' → Past (3 * n) out out'
+pub cover-past : {o : List ℕ} {t R g n : ℕ} {out out' : List ℕ} → CoverStep o t R g out (Runs n) out' → Past (3 * n) out out'
 unfolding coverOutput
-cover-past {o} {t} {R} {n} {out} {out'} x =
-    let g = granted o t R (length out) n (x .answer) in
-    let q9 = question-9-turn t .0 (none-no-is o _ (2 ^ t) R .0 (g .none-no) .2) in
-    let room = leb-true (3 * countRuns (pieceRuns o t R)) (length out) (sym (room-one o R (length out) t q9) ∙ g .room) in
-    past (3 * n) (runsWords 0 (pieceRuns o t R)) out out' (omega (arith, runs-length 0 (pieceRuns o t R), g .count))
-    (omega (arith, g .count)) (x .output)
+cover-past {o} {t} {R} {g} {n} {out} {out'} x =
+    let h = granted o t R g (length out) n (x .answer) in
+    let q9 = question-9-turn t .0 (none-no-is o _ (2 ^ t) R .0 (h .none-no) .2) in
+    let room = leb-true (3 * countRuns (pieceRuns o t R g)) (length out) (sym (room-one o R g (length out) t q9) ∙ h .room) in
+    past (3 * n) (runsWords 0 (pieceRuns o t R g)) out out' (omega (arith, runs-length 0 (pieceRuns o t R g), h .count))
+    (omega (arith, h .count)) (x .output)
 
 pub read-past : {b out out' : List ℕ} {f : Figures} {ps : List Piece} → ReadStep b out (Read f) out' → SheetHolds b ps →
     Past (length (listWords ps)) out out'
@@ -65,22 +65,23 @@ pieces-long : (b : List ℕ) → length (sheetPieces b) ≡ length (pieceRecords
 unfolding sheetPieces
 pieces-long b = length-map (pieceRecords b) (pieceOf b)
 
-entries-long : (b : List ℕ) (strip work : ℕ) → length (entriesWords (layEntries b strip work)) ≡ 4 * length (sheetPieces b)
+entries-long : (b : List ℕ) (g strip work : ℕ) → length (entriesWords (layEntries b g strip work)) ≡ 4 * length (sheetPieces b)
 unfolding layEntries
-entries-long b strip work =
+entries-long b g strip work =
     omega (
       arith,
-      length-entriesWords (layEntries b strip work),
-      length-entriesFrom (sheetW b) (sheetR b) (sheetN b) (recordsOf (sheetN b) strip) work 1 (replicate (sheetN b) []) (sheetPieces b),
+      length-entriesWords (layEntries b g strip work),
+      length-entriesFrom (sheetW b) (sheetR b) (sheetN b) g (recordsOf (sheetN b) strip) work 1 (replicate (sheetN b) [])
+          (sheetPieces b),
     )
 
-pub lay-past : {b s out work s' out' work' : List ℕ} {t : Totals} {ps : List Piece} → LayStep b s out work (Laid t) s' out' work' →
-    SheetHolds b ps → Past (4 * length ps) out out'
+pub lay-past : {b : List ℕ} {g : ℕ} {s out work s' out' work' : List ℕ} {t : Totals} {ps : List Piece} →
+    LayStep b g s out work (Laid t) s' out' work' → SheetHolds b ps → Past (4 * length ps) out out'
 unfolding layOutput
-lay-past {b} {s} {out} {work} {s'} {out'} {work'} {t} {ps} x h =
-    let g = lay-granted b (length s) (length out) (length work) t (x .answer) in
-    let ws = entriesWords (layEntries b (length s) (length work)) in
+lay-past {b} {g} {s} {out} {work} {s'} {out'} {work'} {t} {ps} x h =
+    let given = lay-granted b g (length s) (length out) (length work) t (x .answer) in
+    let ws = entriesWords (layEntries b g (length s) (length work)) in
     let e : length ws ≡ 4 * length ps =
-    entries-long b (length s) (length work) ∙ ap (λ (qs : List Piece). 4 * length qs) (holds-pieces h) in
-    past (4 * length ps) ws out out' e (omega (arith, g .room, pieces-long b, ap length (holds-pieces h)))
+    entries-long b g (length s) (length work) ∙ ap (λ (qs : List Piece). 4 * length qs) (holds-pieces h) in
+    past (4 * length ps) ws out out' e (omega (arith, given .room, pieces-long b, ap length (holds-pieces h)))
     (x .output ∙ ap (λ (n : ℕ). ws ++ drop n out) e)

@@ -9,7 +9,7 @@ use lib.ListN.{length}
 use Rattle.defs.specs.declared.Position.{Position}
 use Rattle.defs.specs.declared.Placing.the-variants.{Placed}
 use Rattle.defs.specs.declared.Committing.the-variants.{Committed}
-use Rattle.defs.specs.Meaning.Strip.{Holds, widthOf, resolutionOf, columnsOf}
+use Rattle.defs.specs.Meaning.Strip.{Holds, widthOf, resolutionOf, columnsOf, gapOf}
 use Rattle.defs.specs.Meaning.Placing.{cellsAt}
 use Rattle.defs.specs.Computing.Words.{wellFormedb, columnsRuns}
 use Rattle.defs.specs.Computing.Calls.{refusal, PlaceStep, CommitStep, placeAnswer, commitAnswer, PlaceLeaves, CommitLeaves}
@@ -26,8 +26,8 @@ use Rattle.claims.specs.Numbers.{PlacedAlone, CommittedAlone}
 
 -- one strip, which passes 5
 module _ (s : List ℕ) (w : wellFormedb s ≡ true) where
-  alone : Kept (widthOf s) (resolutionOf s) (columnsOf s) (length s) s
-  alone = record { well-formed = w; long = refl; width = refl; resolution = refl; columns = refl }
+  alone : Kept (widthOf s) (resolutionOf s) (columnsOf s) (gapOf s) (length s) s
+  alone = record { well-formed = w; long = refl; width = refl; resolution = refl; columns = refl; gap = refl }
 
   held-alone : Same (In (columnsRuns s)) (Holds s)
   held-alone i j = let t = holds-held alone i j in (t .1, t .0)
@@ -35,7 +35,7 @@ module _ (s : List ℕ) (w : wellFormedb s ≡ true) where
   -- an entry adds the piece's cells
   after : (o : List ℕ) (p : Position) (s' : List ℕ) → wellFormedb s' ≡ true →
       Entry (widthOf s) (resolutionOf s) (columnsOf s) s s' o p →
-      (i j : ℕ) → Holds s' i j ↔ (Holds s i j ⊎ cellsAt (resolutionOf s) o p i j)
+      (i j : ℕ) → Holds s' i j ↔ (Holds s i j ⊎ cellsAt (widthOf s) (resolutionOf s) (columnsOf s) (gapOf s) o p i j)
   after o p s' w' e i j =
       let t = holds-table s' w' i j in
       let c = entry-cells alone s' o p e i j in (
@@ -68,6 +68,7 @@ placed-alone {s} {o} {mask} {work} {s'} {work'} {p} x =
       width = x .strip .width;
       resolution = x .strip .resolution;
       columns = x .strip .columns;
+      gap = x .strip .gap;
       holds =
           after s w o p s' (x .strip .well-formed)
           (place-entry (alone s w) s' o mask (length work) p (sym (x .answer)) (x .strip));
@@ -85,6 +86,7 @@ committed-alone {s} {o} {p} {work} {s'} x =
       width = x .strip .width;
       resolution = x .strip .resolution;
       columns = x .strip .columns;
+      gap = x .strip .gap;
       holds =
           after s w o p s' (x .strip .well-formed) (commit-entry (alone s w) s' o p (length work) (sym (x .answer)) (x .strip));
     }

@@ -19,12 +19,12 @@ use Rattle.defs.specs.Meaning.Limits.{mostPieces, mostVertices, mostBytes}
 use Rattle.defs.specs.Meaning.Sheet.{Piece, PieceChain, VertexChain, Pieces, no-more, one-more, sheetW, sheetR, sheetN, sheetV, vertexNumber, pieceNumber, vertexWords, listWords, listPiece}
 use Rattle.defs.specs.Meaning.Question.{Question4, Question6, Question7, Question7Sheet, Question7List, Question9, Question15, Question2Size}
 use Rattle.defs.specs.Computing.Test.{ask, endsBy}
-use Rattle.defs.specs.Computing.Words.{lengthb}
+use Rattle.defs.specs.Computing.Words.{gapb, lengthb}
 use Rattle.defs.specs.Computing.Calls.{refusal, q7b, q9b}
 use Rattle.defs.specs.Computing.Sheets.{q1b, q2b, q6b, q6Listb, q7Listb, pieceRecords, pieceOf, sheetPieceNo, firstNo, sheetNo, sheetPieces, readAnswer, verticesIn, sizeOf, listTails, listPieceNo, listPieces, listNo, writeAnswer}
 use Rattle.defs.specs.Computing.Lay.{layAnswer, layEntries, placedIn, usedIn}
 use Rattle.laws.proofs.Tests.{Decides, decides-by, and-decides, leb-decides, and-right}
-use Rattle.laws.proofs.Questions.{question-1, question-2, question-2-size, question-4, question-6-list, question-7, question-7-list, question-9, question-15}
+use Rattle.laws.proofs.Questions.{question-1, question-2, question-2-size, question-21, question-4, question-6-list, question-7, question-7-list, question-9, question-15}
 use Rattle.laws.proofs.SheetChains.{chain-is, question-6, question-7-sheet}
 use Rattle.sheets.proofs.Passing.{piece-is, pieces-are}
 use Rattle.sheets.proofs.Answers.{said, figuresOf}
@@ -122,25 +122,26 @@ read-answers b words =
 abbrev pub TwoValues : ℕ → List ℕ → List ℕ → Type 0
 TwoValues Q rs values = (placed used : ℕ) × (values ≡ placed ∷ used ∷ [])
 
-pub lay-answers : (b : List ℕ) (strip out work : ℕ) →
-    Answers (layQuestionsTo TwoValues b strip out) (laying (layAnswer b strip out work))
+pub lay-answers : (b : List ℕ) (g strip out work : ℕ) →
+    Answers (layQuestionsTo TwoValues b g strip out) (laying (layAnswer b g strip out work))
 unfolding layAnswer layQuestionsTo sheetNo Question4 Question6
-lay-answers b strip out work =
+lay-answers b g strip out work =
     step f (q1b b) _ (some (refusal 1 0)) _ 1 0 _ refl (question-1 b)
     (λ _. step f (q2b b) _ (some (refusal 2 0)) _ 2 0 _ refl (question-2 b)
     (λ _. limits-asked f some (λ n k. refl) (sheetW b) (sheetR b) (sheetN b) _ _
-    (λ _ q16 _. step f (lengthb (sheetN b) strip) _ (some (refusal 4 0)) _ 4 0 _ refl (question-4 (sheetN b) strip)
+    (λ _ q16 _. step f (gapb g) _ (some (refusal 21 0)) _ 21 0 _ refl (question-21 g)
+    (λ _. step f (lengthb (sheetN b) strip) _ (some (refusal 4 0)) _ 4 0 _ refl (question-4 (sheetN b) strip)
     (λ _. pieces-asked b (q16 .at-least) f (λ n k. refl) _
     (λ rs c e all.
     step laying (leb (4 * length (pieceRecords b)) out) _ (NotLaid (refusal 15 0)) totals 15 0 _ refl (lay-15 rs e)
-    (λ _. is-granted _ (laying totals) refl refl (_, _, refl)))))))
+    (λ _. is-granted _ (laying totals) refl refl (_, _, refl))))))))
   where
     totals : Laying
     totals =
         Laid
         (record {
-          placed = placedIn (layEntries b strip work);
-          used = usedIn (sheetR b) (sheetPieces b) (layEntries b strip work);
+          placed = placedIn (layEntries b g strip work);
+          used = usedIn (sheetR b) (sheetPieces b) (layEntries b g strip work);
         })
 
     f : Option Refusal → Outcome

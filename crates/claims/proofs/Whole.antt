@@ -19,8 +19,8 @@ use Rattle.defs.specs.Answer.{numberOf, numberOfAsk, numberOfCommit}
 use Rattle.defs.specs.Meaning.Limits.{mostTurn}
 use Rattle.defs.specs.Meaning.Cell.{Cells}
 use Rattle.defs.specs.Meaning.Strip.{Length, columnsOf}
-use Rattle.defs.specs.Meaning.Placing.{cellsAt, Free, Best}
-use Rattle.defs.specs.Meaning.Question.{AskedBefore13, Question13, Question18}
+use Rattle.defs.specs.Meaning.Placing.{moved, cellsAt, Free, Best}
+use Rattle.defs.specs.Meaning.Question.{Question18}
 use Rattle.defs.specs.Computing.Cells.{Rows, inRows}
 use Rattle.defs.specs.Computing.Words.{recordsOf, columnsRuns}
 use Rattle.defs.specs.Computing.Calls.{refusal, placeAnswer, shown, askAnswer, OpenLeaves, Left}
@@ -29,21 +29,21 @@ use Rattle.tables.proofs.Tables.{In}
 use Rattle.tables.proofs.Sets.{Same}
 use Rattle.tables.proofs.Columns.{column-at, column-past}
 use Rattle.claims.specs.Trace.{Call, PlaceCall, AskCall, CommitCall, place-call, ask-call, commit-call, Step, Calls, Trace, numberIn, Puts, Changes, Lies, Occupied}
-use Rattle.claims.specs.Demand3.{Place, Ask, Commit, NoChange, Demand3, Demand3-holds}
+use Rattle.claims.specs.Demand3.{Place, Ask, Commit, Asked, SomeFree, NoChange, Demand3, Demand3-holds}
 use Rattle.claims.proofs.Invariant.{Kept, kept}
 use Rattle.claims.proofs.KeptStrip.{resolution-least, strip-formed, holds-held}
 use Rattle.claims.proofs.PlaceAnswers.{place-not-5, place-best, place-13, place-granted}
 use Rattle.claims.proofs.CommitAnswers.{commit-turn, commit-not-5, commit-not-13, commit-fits, commit-is-18, commit-granted}
 use Rattle.claims.proofs.AskCommit.{shown-found, commit-found}
-use Rattle.claims.proofs.Effects.{Effect, stays, enters, effect, entry-cells}
-use Rattle.claims.proofs.Apart.{no-common-point}
+use Rattle.claims.proofs.Effects.{Entry, Effect, stays, enters, effect, entry-cells}
+use Rattle.claims.proofs.Distance.{Separate, pieces-separate}
 
 -- an ask's number is that of the place call
 shown-number : (a : Placing) → numberOfAsk (shown a) ≡ numberOf a
 shown-number (Placed p) = refl
 shown-number (Refused r) = refl
 
-module _ {W R N : ℕ} {x : Calls} (t : Trace W R N x) where
+module _ {W R N g : ℕ} {x : Calls} (t : Trace W R N g x) where
   abbrev Q : ℕ
   Q = recordsOf N (length (x .lent))
 
@@ -51,9 +51,9 @@ module _ {W R N : ℕ} {x : Calls} (t : Trace W R N x) where
   held m = columnsRuns (x .strip m)
 
   abbrev Occ : ℕ → Cells
-  Occ m = Occupied R (x .call) m
+  Occ m = Occupied W R N g (x .call) m
 
-  step-of : (m : ℕ) (c : Call) → m < x .count → x .call m ≡ c → Step c (x .strip m) (x .strip (suc m))
+  pub step-of : (m : ℕ) (c : Call) → m < x .count → x .call m ≡ c → Step c (x .strip m) (x .strip (suc m))
   step-of m c h e = subst (λ (d : Call). Step d (x .strip m) (x .strip (suc m))) e (t .step m h)
 
   effect-of : (m : ℕ) → m < x .count → Effect W R N (x .strip m) (x .strip (suc m)) (x .call m)
@@ -80,12 +80,12 @@ module _ {W R N : ℕ} {x : Calls} (t : Trace W R N x) where
         covered = c .covered;
       }
 
-  occupied-new : (m i j : ℕ) (o : List ℕ) (p : Position) → Puts (x .call m) o p → cellsAt R o p i j → Occ (suc m) i j
+  occupied-new : (m i j : ℕ) (o : List ℕ) (p : Position) → Puts (x .call m) o p → cellsAt W R N g o p i j → Occ (suc m) i j
   occupied-new m i j o p u c =
       record { call = m; outline = o; position = p; lies = record { earlier = omega arith; puts = u }; covered = c }
 
   occupied-cases : (m i j : ℕ) → Occ (suc m) i j →
-      Occ m i j ⊎ ((o : List ℕ) × (p : Position) × Puts (x .call m) o p × cellsAt R o p i j)
+      Occ m i j ⊎ ((o : List ℕ) × (p : Position) × Puts (x .call m) o p × cellsAt W R N g o p i j)
   occupied-cases m i j c =
       ⊎-elim
       (λ h. inl (record { call = c .call; outline = c .outline; position = c .position; lies = h; covered = c .covered }))
@@ -96,7 +96,7 @@ module _ {W R N : ℕ} {x : Calls} (t : Trace W R N x) where
   unfolding OpenLeaves
   opened-empty i = go (decLt i (columnsOf (x .strip 0)))
     where
-      left : Left W R N (length (x .lent)) (λ k. []) (x .strip 0)
+      left : Left W R N g (length (x .lent)) (λ k. []) (x .strip 0)
       left = t .open-step .strip
 
       go : Dec (i < columnsOf (x .strip 0)) → getD (held 0) i [] ≡ []
@@ -115,7 +115,7 @@ module _ {W R N : ℕ} {x : Calls} (t : Trace W R N x) where
 
   grown-agree : (m : ℕ) (o : List ℕ) (p : Position) → Puts (x .call m) o p →
       ((v : List ℕ) (q : Position) → Puts (x .call m) v q → (o ≡ v) × (p ≡ q)) →
-      Same (In (held (suc m))) (λ i j. In (held m) i j ⊎ cellsAt R o p i j) → Agree m → Agree (suc m)
+      Same (In (held (suc m))) (λ i j. In (held m) i j ⊎ cellsAt W R N g o p i j) → Agree m → Agree (suc m)
   grown-agree m o p u only cells h i j = (
     λ a. ⊎-elim (λ b. occupied-before m i j (h i j .0 b)) (λ c. occupied-new m i j o p u c) (cells i j .0 a),
     λ c.
@@ -123,7 +123,7 @@ module _ {W R N : ℕ} {x : Calls} (t : Trace W R N x) where
         (⊎-elim (λ b. inl (h i j .1 b))
         (λ n.
         let e = only (n .0) (n .1) (n .2) in
-        inr (subst₂ (λ (v : List ℕ) (q : Position). cellsAt R v q i j) (sym (e .0)) (sym (e .1)) (n .3)))
+        inr (subst₂ (λ (v : List ℕ) (q : Position). cellsAt W R N g v q i j) (sym (e .0)) (sym (e .1)) (n .3)))
         (occupied-cases m i j c)),
   )
 
@@ -142,30 +142,61 @@ module _ {W R N : ℕ} {x : Calls} (t : Trace W R N x) where
 
   -- each piece put is on the strip, and free of those there
   place-puts : (m : ℕ) (c : PlaceCall) (o : List ℕ) (p : Position) → Place x m c → (c .outline ≡ o) × (c .answer ≡ Placed p) →
-      Question18 W R N (Occ m) o p
+      Question18 W R N g (Occ m) o p
   unfolding Step
   place-puts m c o p h u =
       let b =
       place-best (kept t m (omega (arith, h .0))) (c .outline) (c .mask) _ (Occ m) (held-is m (omega (arith, h .0))) p
       (sym (step-of m (place-call c) (h .0) (h .1) .answer) ∙ u .1) in
-      subst (λ (v : List ℕ). Question18 W R N (Occ m) v p) (u .0) (record { on-strip = b .fits .on-strip; free = b .fits .free })
+      subst (λ (v : List ℕ). Question18 W R N g (Occ m) v p) (u .0) (record { on-strip = b .fits .on-strip; free = b .fits .free })
 
   commit-puts : (m : ℕ) (c : CommitCall) (o : List ℕ) (p : Position) → Commit x m c →
-      (c .outline ≡ o) × (c .at ≡ p) × (c .answer ≡ Committed) → Question18 W R N (Occ m) o p
+      (c .outline ≡ o) × (c .at ≡ p) × (c .answer ≡ Committed) → Question18 W R N g (Occ m) o p
   unfolding Step
   commit-puts m c o p h u =
-      subst₂ (Question18 W R N (Occ m)) (u .0) (u .1)
+      subst₂ (Question18 W R N g (Occ m)) (u .0) (u .1)
       (commit-fits (kept t m (omega (arith, h .0))) (c .outline) (c .at) _ (Occ m) (held-is m (omega (arith, h .0)))
       (sym (step-of m (commit-call c) (h .0) (h .1) .answer) ∙ u .2))
 
-  puts-fits : (m : ℕ) (o : List ℕ) (p : Position) → m < x .count → Puts (x .call m) o p → Question18 W R N (Occ m) o p
+  puts-fits : (m : ℕ) (o : List ℕ) (p : Position) → m < x .count → Puts (x .call m) o p → Question18 W R N g (Occ m) o p
   unfolding Puts
   puts-fits m o p h u = go (x .call m) refl u
     where
-      go : (c : Call) → x .call m ≡ c → Puts c o p → Question18 W R N (Occ m) o p
+      go : (c : Call) → x .call m ≡ c → Puts c o p → Question18 W R N g (Occ m) o p
       go (place-call c) e u = place-puts m c o p (h, e) u
       go (ask-call c) e u = absurd u
       go (commit-call c) e u = commit-puts m c o p (h, e) u
+
+  -- and entered, its outline in order
+  pub puts-entry : (m : ℕ) (o : List ℕ) (p : Position) → m < x .count → Puts (x .call m) o p →
+      Entry W R N (x .strip m) (x .strip (suc m)) o p
+  puts-entry m o p h u = go (effect-of m h)
+    where
+      go : Effect W R N (x .strip m) (x .strip (suc m)) (x .call m) → Entry W R N (x .strip m) (x .strip (suc m)) o p
+      go (stays none e) = absurd (none o p u)
+      go (enters v q w only changes entry) =
+          let e = only o p u in
+          subst₂ (Entry W R N (x .strip m) (x .strip (suc m))) (e .0) (e .1) entry
+
+  -- two pieces put: no cell that counts is covered for both, so their points keep the distance
+  module _ (k l : ℕ) (o v : List ℕ) (p q : Position) (kl : k < l) (h : l < x .count) (uk : Puts (x .call k) o p)
+      (ul : Puts (x .call l) v q) where
+    cells-apart : (i j : ℕ) → cellsAt W R N g o p i j → ¬ cellsAt W R N g v q i j
+    unfolding Free
+    cells-apart i j c c' =
+        puts-fits l v q h ul .free i j c'
+        (record { call = k; outline = o; position = p; lies = record { earlier = kl; puts = uk }; covered = c })
+
+    first : Entry W R N (x .strip k) (x .strip (suc k)) o p
+    first = puts-entry k o p (omega arith) uk
+
+    second : Entry W R N (x .strip l) (x .strip (suc l)) v q
+    second = puts-entry l v q h ul
+
+    separate : Separate g (moved R o p) (moved R v q)
+    separate =
+        pieces-separate W R N g o v p q (resolution-least (kept t l (omega arith))) (first .keeps) (second .keeps) (first .side)
+        (second .side) (first .on-strip) (second .on-strip) cells-apart
 
   -- and in a turn
   puts-turn : (m : ℕ) (o : List ℕ) (p : Position) → m < x .count → Puts (x .call m) o p → p .turn ≤ mostTurn
@@ -215,7 +246,7 @@ module _ {W R N : ℕ} {x : Calls} (t : Trace W R N x) where
         ap (λ (o : List ℕ). placeAnswer (x .strip l) o (a .mask) (length (a .work))) (sym same) ∙
         shown-found _ (c .at) (sym answered ∙ step-of l (ask-call a) (hl .0) (hl .1) .answer)
 
-    commit-best : Best W R N (Occ m) (c .outline) (a .mask) (c .at)
+    commit-best : Best W R N g (Occ m) (c .outline) (a .mask) (c .at)
     commit-best =
         place-best (kept t m (omega (arith, hm .0))) (c .outline) (a .mask) _ (Occ m) (held-is m (omega (arith, hm .0))) (c .at)
         placed-there
@@ -231,16 +262,18 @@ module _ {W R N : ℕ} {x : Calls} (t : Trace W R N x) where
   unfolding Step numberIn askAnswer
   never-5-at m h = go (x .call m) (t .step m h)
     where
-      k : Kept W R N (length (x .lent)) (x .strip m)
+      k : Kept W R N g (length (x .lent)) (x .strip m)
       k = kept t m (omega arith)
 
       go : (c : Call) → Step c (x .strip m) (x .strip (suc m)) → numberIn c ≢ 5
       go (place-call c) t e = place-not-5 k (c .outline) (c .mask) (length (c .work)) (ap numberOf (sym (t .answer)) ∙ e)
       go (ask-call c) t e =
-          place-not-5 k (c .outline) (c .mask) (length (c .work)) (sym (shown-number (placeAnswer (x .strip m) (c .outline) (c .mask) (length (c .work)))) ∙ ap numberOfAsk (sym (t .answer)) ∙ e)
+          place-not-5 k (c .outline) (c .mask) (length (c .work))
+          (sym (shown-number (placeAnswer (x .strip m) (c .outline) (c .mask) (length (c .work)))) ∙
+          ap numberOfAsk (sym (t .answer)) ∙ e)
       go (commit-call c) t e = commit-not-5 k (c .outline) (c .at) (length (c .work)) (ap numberOfCommit (sym (t .answer)) ∙ e)
 
-  demand3 : Demand3 W R N x
+  pub demand3 : Demand3 W R N g x
   unfolding Free Step askAnswer
   demand3 =
       record {
@@ -250,11 +283,10 @@ module _ {W R N : ℕ} {x : Calls} (t : Trace W R N x) where
             (strip-formed (kept t 0 (omega arith)) .long);
         no-point-in-two =
             λ m k l o v p q a b d h kl lk ll.
-            no-common-point _ _ R (resolution-least (kept t m h))
-            (λ i j c c'.
-            puts-fits l v q (omega (arith, ll .earlier)) (ll .puts) .free i j c'
-            (record { call = k; outline = o; position = p; lies = record { earlier = kl; puts = lk .puts }; covered = c }))
-            a b d;
+            separate k l o v p q kl (omega (arith, ll .earlier)) (lk .puts) (ll .puts) .none-in-both a b d;
+        points-apart =
+            λ m k l o v p q a b d a' b' d' h kl lk ll.
+            separate k l o v p q kl (omega (arith, ll .earlier)) (lk .puts) (ll .puts) .distant a b d a' b' d';
         in-turn = puts-turn;
         on-strip = λ m o p h u. puts-fits m o p h u .on-strip;
         free = λ m o p h u. puts-fits m o p h u .free;
@@ -271,22 +303,24 @@ module _ {W R N : ℕ} {x : Calls} (t : Trace W R N x) where
             λ m c h.
             subst
             (λ (a : Placing).
-            (numberOf a ≡ 13) ↔ (AskedBefore13 (x .strip m) (c .outline) (c .mask) R (length (c .work)) × ¬ Question13 W R N (Occ m) (c .outline) (c .mask)))
+            (numberOf a ≡ 13) ↔ (Asked x R g m (c .outline) (c .mask) (c .work) × ¬ SomeFree x W R N g m (c .outline) (c .mask)))
             (sym (step-of m (place-call c) (h .0) (h .1) .answer))
             (place-13 (kept t m (omega (arith, h .0))) (c .outline) (c .mask) _ (Occ m) (held-is m (omega (arith, h .0))));
         ask-no-position =
             λ m c h.
             subst
             (λ (n : ℕ).
-            (n ≡ 13) ↔ (AskedBefore13 (x .strip m) (c .outline) (c .mask) R (length (c .work)) × ¬ Question13 W R N (Occ m) (c .outline) (c .mask)))
-            (sym (ap numberOfAsk (step-of m (ask-call c) (h .0) (h .1) .answer) ∙ shown-number (placeAnswer (x .strip m) (c .outline) (c .mask) (length (c .work)))))
+            (n ≡ 13) ↔ (Asked x R g m (c .outline) (c .mask) (c .work) × ¬ SomeFree x W R N g m (c .outline) (c .mask)))
+            (sym
+            (ap numberOfAsk (step-of m (ask-call c) (h .0) (h .1) .answer) ∙
+            shown-number (placeAnswer (x .strip m) (c .outline) (c .mask) (length (c .work)))))
             (place-13 (kept t m (omega (arith, h .0))) (c .outline) (c .mask) _ (Occ m) (held-is m (omega (arith, h .0))));
         commit-18 =
             λ m c h.
             subst
             (λ (a : Committing).
             (numberOfCommit a ≡ 18) ↔
-            (AskedBefore13 (x .strip m) (c .outline) (2 ^ c .at .turn) R (length (c .work)) × ¬ Question18 W R N (Occ m) (c .outline) (c .at)))
+            (Asked x R g m (c .outline) (2 ^ c .at .turn) (c .work) × ¬ Question18 W R N g (Occ m) (c .outline) (c .at)))
             (sym (step-of m (commit-call c) (h .0) (h .1) .answer))
             (commit-is-18 (kept t m (omega (arith, h .0))) (c .outline) (c .at) _ (Occ m) (held-is m (omega (arith, h .0))));
         commit-never-13 =
@@ -296,12 +330,14 @@ module _ {W R N : ℕ} {x : Calls} (t : Trace W R N x) where
         never-5 = never-5-at;
         places-it =
             λ m c h a f room.
-            let g = place-granted (kept t m (omega (arith, h .0))) (c .outline) (c .mask) _ (Occ m) (held-is m (omega (arith, h .0))) a f room in
-            (g .0, step-of m (place-call c) (h .0) (h .1) .answer ∙ g .1);
+            let granted =
+            place-granted (kept t m (omega (arith, h .0))) (c .outline) (c .mask) _ (Occ m) (held-is m (omega (arith, h .0))) a f room in
+            (granted .0, step-of m (place-call c) (h .0) (h .1) .answer ∙ granted .1);
         finds-it =
             λ m c h a f room.
-            let g = place-granted (kept t m (omega (arith, h .0))) (c .outline) (c .mask) _ (Occ m) (held-is m (omega (arith, h .0))) a f room in
-            (g .0, step-of m (ask-call c) (h .0) (h .1) .answer ∙ ap shown (g .1));
+            let granted =
+            place-granted (kept t m (omega (arith, h .0))) (c .outline) (c .mask) _ (Occ m) (held-is m (omega (arith, h .0))) a f room in
+            (granted .0, step-of m (ask-call c) (h .0) (h .1) .answer ∙ ap shown (granted .1));
         commits-it =
             λ m c h a f room.
             step-of m (commit-call c) (h .0) (h .1) .answer ∙
@@ -317,6 +353,7 @@ module _ {W R N : ℕ} {x : Calls} (t : Trace W R N x) where
               width = k .width;
               resolution = k .resolution;
               columns = k .columns;
+              gap = k .gap;
               holds =
                   λ i j.
                   let t = holds-held k i j in
@@ -326,4 +363,4 @@ module _ {W R N : ℕ} {x : Calls} (t : Trace W R N x) where
 
 pub demand3-holds : Demand3-holds
 unfolding Demand3-holds
-demand3-holds W R N x t = demand3 t
+demand3-holds W R N g x t = demand3 t

@@ -11,7 +11,7 @@ use Rattle.defs.specs.declared.Placing.the-variants.{Placed}
 use Rattle.defs.specs.declared.Committing.the-variants.{Committed}
 use Rattle.defs.specs.declared.Laying.the-variants.{Laid}
 use Rattle.defs.specs.Meaning.Limits.{Between}
-use Rattle.defs.specs.Meaning.Strip.{Length, widthOf, resolutionOf, columnsOf, firstOf, columnOf, lowOf, highOf, nextOf}
+use Rattle.defs.specs.Meaning.Strip.{Length, widthOf, resolutionOf, columnsOf, gapOf, firstOf, columnOf, lowOf, highOf, nextOf}
 use Rattle.defs.specs.Meaning.Sheet.{sheetN}
 use Rattle.defs.specs.Computing.Calls.{OpenStep, PlaceStep, CommitStep}
 use Rattle.defs.specs.Computing.Lay.{LayStep}
@@ -22,6 +22,7 @@ pub record Renumbered (Q : ℕ) (s s' : List ℕ) : Type 0 where
   pub width : widthOf s' ≡ widthOf s
   pub resolution : resolutionOf s' ≡ resolutionOf s
   pub columns : columnsOf s' ≡ columnsOf s
+  pub gap : gapOf s' ≡ gapOf s
   -- one to one on 1 to Q; 0, which ends a chain, stays
   pub to : ℕ → ℕ
   pub back : ℕ → ℕ
@@ -38,7 +39,7 @@ pub record Renumbered (Q : ℕ) (s s' : List ℕ) : Type 0 where
 
 pub record OnlyNumbersOpen : Type 0 where
   pub open-leaves :
-      {W R N Q : ℕ} {s s₁ s₂ : List ℕ} → Length N Q (length s) → OpenStep W R N s Opened s₁ → OpenStep W R N s Opened s₂ →
+      {W R N g Q : ℕ} {s s₁ s₂ : List ℕ} → Length N Q (length s) → OpenStep W R N g s Opened s₁ → OpenStep W R N g s Opened s₂ →
       Renumbered Q s₁ s₂
   pub place-leaves :
       {Q : ℕ} {s o : List ℕ} {mask : ℕ} {work : List ℕ} {p : Position} {s₁ work₁ s₂ work₂ : List ℕ} →
@@ -48,14 +49,14 @@ pub record OnlyNumbersOpen : Type 0 where
       {Q : ℕ} {s o : List ℕ} {p : Position} {work s₁ work₁ s₂ work₂ : List ℕ} → Length (columnsOf s) Q (length s) →
       CommitStep s o p work Committed s₁ work₁ → CommitStep s o p work Committed s₂ work₂ → Renumbered Q s₁ s₂
   pub lay-leaves :
-      {Q : ℕ} {b s out work : List ℕ} {t : Totals} {s₁ out₁ work₁ s₂ out₂ work₂ : List ℕ} → Length (sheetN b) Q (length s) →
-      LayStep b s out work (Laid t) s₁ out₁ work₁ → LayStep b s out work (Laid t) s₂ out₂ work₂ → Renumbered Q s₁ s₂
+      {g Q : ℕ} {b s out work : List ℕ} {t : Totals} {s₁ out₁ work₁ s₂ out₂ work₂ : List ℕ} → Length (sheetN b) Q (length s) →
+      LayStep b g s out work (Laid t) s₁ out₁ work₁ → LayStep b g s out work (Laid t) s₂ out₂ work₂ → Renumbered Q s₁ s₂
 
 -- And each numbering will do: what a call may leave, numbered anew, it may leave as well.
 pub record AnyNumbers : Type 0 where
   pub open-may :
-      {W R N Q : ℕ} {s s₁ s₂ : List ℕ} → Length N Q (length s) → OpenStep W R N s Opened s₁ → Renumbered Q s₁ s₂ →
-      OpenStep W R N s Opened s₂
+      {W R N g Q : ℕ} {s s₁ s₂ : List ℕ} → Length N Q (length s) → OpenStep W R N g s Opened s₁ → Renumbered Q s₁ s₂ →
+      OpenStep W R N g s Opened s₂
   pub place-may :
       {Q : ℕ} {s o : List ℕ} {mask : ℕ} {work : List ℕ} {p : Position} {s₁ s₂ work' : List ℕ} →
       Length (columnsOf s) Q (length s) → PlaceStep s o mask work (Placed p) s₁ work' → Renumbered Q s₁ s₂ →
@@ -64,5 +65,5 @@ pub record AnyNumbers : Type 0 where
       {Q : ℕ} {s o : List ℕ} {p : Position} {work s₁ s₂ work' : List ℕ} → Length (columnsOf s) Q (length s) →
       CommitStep s o p work Committed s₁ work' → Renumbered Q s₁ s₂ → CommitStep s o p work Committed s₂ work'
   pub lay-may :
-      {Q : ℕ} {b s out work : List ℕ} {t : Totals} {s₁ s₂ out' work' : List ℕ} → Length (sheetN b) Q (length s) →
-      LayStep b s out work (Laid t) s₁ out' work' → Renumbered Q s₁ s₂ → LayStep b s out work (Laid t) s₂ out' work'
+      {g Q : ℕ} {b s out work : List ℕ} {t : Totals} {s₁ s₂ out' work' : List ℕ} → Length (sheetN b) Q (length s) →
+      LayStep b g s out work (Laid t) s₁ out' work' → Renumbered Q s₁ s₂ → LayStep b g s out work (Laid t) s₂ out' work'

@@ -38,9 +38,9 @@ pub record Past (k : ℕ) (out out' : List ℕ) : Type 0 where
 pub record Demand1 : Type 0 where
   -- "Strip and output keep their words at a refusal."
   pub open-keeps :
-      {W R N : ℕ} {s s' : List ℕ} {r : Refusal} → OpenStep W R N s (NotOpened r) s' → s' ≡ s
+      {W R N g : ℕ} {s s' : List ℕ} {r : Refusal} → OpenStep W R N g s (NotOpened r) s' → s' ≡ s
   pub cover-keeps :
-      {o : List ℕ} {t R : ℕ} {out out' : List ℕ} {r : Refusal} → CoverStep o t R out (NotCovered r) out' → out' ≡ out
+      {o : List ℕ} {t R g : ℕ} {out out' : List ℕ} {r : Refusal} → CoverStep o t R g out (NotCovered r) out' → out' ≡ out
   pub place-keeps :
       {s o : List ℕ} {mask : ℕ} {work s' work' : List ℕ} {r : Refusal} → PlaceStep s o mask work (NotPlaced r) s' work' → s' ≡ s
   -- an ask keeps the strip whatever is answered: "changes no strip word"
@@ -53,19 +53,19 @@ pub record Demand1 : Type 0 where
   pub write-keeps :
       {W R N : ℕ} {ws out out' : List ℕ} {r : Refusal} → WriteStep W R N ws out (NotWritten r) out' → out' ≡ out
   pub lay-keeps :
-      {b s out work s' out' work' : List ℕ} {r : Refusal} → LayStep b s out work (NotLaid r) s' out' work' →
+      {b : List ℕ} {g : ℕ} {s out work s' out' work' : List ℕ} {r : Refusal} → LayStep b g s out work (NotLaid r) s' out' work' →
       (s' ≡ s) × (out' ≡ out)
   -- where the call is granted
   pub cover-past :
-      {o : List ℕ} {t R n : ℕ} {out out' : List ℕ} → CoverStep o t R out (Runs n) out' → Past (3 * n) out out'
+      {o : List ℕ} {t R g n : ℕ} {out out' : List ℕ} → CoverStep o t R g out (Runs n) out' → Past (3 * n) out out'
   pub read-past :
       {b out out' : List ℕ} {f : Figures} {ps : List Piece} → ReadStep b out (Read f) out' → SheetHolds b ps →
       Past (length (listWords ps)) out out'
   pub write-past :
       {W R N n : ℕ} {ws out out' : List ℕ} → WriteStep W R N ws out (Written n) out' → Past n out out'
   pub lay-past :
-      {b s out work s' out' work' : List ℕ} {t : Totals} {ps : List Piece} → LayStep b s out work (Laid t) s' out' work' →
-      SheetHolds b ps → Past (4 * length ps) out out'
+      {b : List ℕ} {g : ℕ} {s out work s' out' work' : List ℕ} {t : Totals} {ps : List Piece} →
+      LayStep b g s out work (Laid t) s' out' work' → SheetHolds b ps → Past (4 * length ps) out out'
   -- whatever is answered
   pub place-clears :
       {s o : List ℕ} {mask : ℕ} {work : List ℕ} {a : Placing} {s' work' : List ℕ} →
@@ -77,4 +77,5 @@ pub record Demand1 : Type 0 where
       {s o : List ℕ} {p : Position} {work : List ℕ} {a : Committing} {s' work' : List ℕ} →
       CommitStep s o p work a s' work' → Zero work work'
   pub lay-clears :
-      {b s out work : List ℕ} {a : Laying} {s' out' work' : List ℕ} → LayStep b s out work a s' out' work' → Zero work work'
+      {b : List ℕ} {g : ℕ} {s out work : List ℕ} {a : Laying} {s' out' work' : List ℕ} →
+      LayStep b g s out work a s' out' work' → Zero work work'

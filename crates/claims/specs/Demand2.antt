@@ -13,7 +13,7 @@ use Rattle.defs.specs.declared.Writing.{Writing}
 use Rattle.defs.specs.declared.Writing.the-variants.{Written}
 use Rattle.defs.specs.Meaning.Limits.{mostBytes}
 use Rattle.defs.specs.Meaning.Turn.{turned}
-use Rattle.defs.specs.Meaning.Cell.{Covered, Run}
+use Rattle.defs.specs.Meaning.Cell.{CoveredGap, Run}
 use Rattle.defs.specs.Meaning.Sheet.{Piece, ListHolds, SheetHolds, listWords, sheetW, sheetR, sheetN}
 use Rattle.defs.specs.Computing.Calls.{CoverStep}
 use Rattle.defs.specs.Computing.Sheets.{sizeOf, ReadStep, WriteStep}
@@ -26,11 +26,12 @@ pub record InRun (out : List ℕ) (n i j : ℕ) : Type 0 where
   pub low : getD out (3 * m + 1) 0 ≤ j
   pub high : j < getD out (3 * m + 2) 0
 
--- "A cell belongs to a turned outline exactly when a point inside the outline lies in that cell"
-pub record CellsAre (o : List ℕ) (t R n : ℕ) (out : List ℕ) : Type 0 where
-  pub cells : (i j : ℕ) → InRun out n i j ↔ Covered (turned o t) R i j
+-- "A cell belongs to a turned outline exactly when a point inside the outline lies in that cell"; S-4: "In demands 2 and 3 a piece's
+-- cells are from here on the new ones".
+pub record CellsAre (o : List ℕ) (t R g n : ℕ) (out : List ℕ) : Type 0 where
+  pub cells : (i j : ℕ) → InRun out n i j ↔ CoveredGap (turned o t) R g i j
   pub runs :
-      (m : ℕ) → m < n → Run (Covered (turned o t) R) (getD out (3 * m) 0) (getD out (3 * m + 1) 0) (getD out (3 * m + 2) 0)
+      (m : ℕ) → m < n → Run (CoveredGap (turned o t) R g) (getD out (3 * m) 0) (getD out (3 * m + 1) 0) (getD out (3 * m + 2) 0)
   pub in-order :
       (m : ℕ) → m + 1 < n →
       (getD out (3 * m) 0 < getD out (3 * m + 3) 0) ⊎
@@ -38,7 +39,7 @@ pub record CellsAre (o : List ℕ) (t R n : ℕ) (out : List ℕ) : Type 0 where
 
 unfoldable pub Demand2-cells : Type 0
 Demand2-cells =
-    (o : List ℕ) (t R n : ℕ) (out out' : List ℕ) → CoverStep o t R out (Runs n) out' → CellsAre o t R n out'
+    (o : List ℕ) (t R g n : ℕ) (out out' : List ℕ) → CoverStep o t R g out (Runs n) out' → CellsAre o t R g n out'
 
 -- "A sheet written from an accepted cut list reads back as that list."
 pub record ReadsBack (W R N : ℕ) (ws sheet : List ℕ) : Type 0 where

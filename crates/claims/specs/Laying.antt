@@ -17,11 +17,11 @@ pieceAt ps m = getD ps m (record { mask = 0; outline = [] })
 
 -- "Lay reads a sheet, opens the lent strip and places the pieces in chain order, going on after a piece that is refused.
 -- Output is four words a piece … The answer adds pieces placed and used columns"
-pub record LaysList (b s : List ℕ) (t : Totals) (s' out' work : List ℕ) : Type 0 where
+pub record LaysList (b : List ℕ) (g : ℕ) (s : List ℕ) (t : Totals) (s' out' work : List ℕ) : Type 0 where
   pub pieces : List Piece
   pub sheet : SheetHolds b pieces
   pub list : PlaceCalls
-  pub steps : PlaceTrace (sheetW b) (sheetR b) (sheetN b) list
+  pub steps : PlaceTrace (sheetW b) (sheetR b) (sheetN b) g list
   pub opens : list .lent ≡ s
   pub all-of-them : list .count ≡ length pieces
   pub outlines : (m : ℕ) → m < length pieces → list .call m .outline ≡ pieceAt pieces m .outline
@@ -35,12 +35,12 @@ pub record LaysList (b s : List ℕ) (t : Totals) (s' out' work : List ℕ) : Ty
 
 unfoldable pub Lay-is-a-list : Type 0
 Lay-is-a-list =
-    (b s out work : List ℕ) (t : Totals) (s' out' work' : List ℕ) →
-    LayStep b s out work (Laid t) s' out' work' → LaysList b s t s' out' work
+    (b : List ℕ) (g : ℕ) (s out work : List ℕ) (t : Totals) (s' out' work' : List ℕ) →
+    LayStep b g s out work (Laid t) s' out' work' → LaysList b g s t s' out' work
 
 -- Demand 3 for a laid job: its calls are a list of place calls, of which all of demand 3 holds.
 unfoldable pub Lay-demand3 : Type 0
 Lay-demand3 =
-    (b s out work : List ℕ) (t : Totals) (s' out' work' : List ℕ) →
-    LayStep b s out work (Laid t) s' out' work' →
-    (l : LaysList b s t s' out' work) × PlaceDemand3 (sheetW b) (sheetR b) (sheetN b) (l .list)
+    (b : List ℕ) (g : ℕ) (s out work : List ℕ) (t : Totals) (s' out' work' : List ℕ) →
+    LayStep b g s out work (Laid t) s' out' work' →
+    (l : LaysList b g s t s' out' work) × PlaceDemand3 (sheetW b) (sheetR b) (sheetN b) g (l .list)

@@ -1,6 +1,7 @@
 pub mod Trace
 pub mod Demand1
 pub mod Demand2
+pub mod Distance
 pub mod Demand3
 pub mod Places
 pub mod Asking

@@ -58,8 +58,8 @@ pub record Calls : Type 0 where
 
 -- "A list begins after a granted open, with nothing placed. Each call gets … the strip as open or the call before it,
 -- granted or refused, left it; nothing else writes the strip meanwhile.": its steps are those of open and of the calls.
-pub record Trace (W R N : ℕ) (x : Calls) : Type 0 where
-  pub open-step : OpenStep W R N (x .lent) Opened (x .strip 0)
+pub record Trace (W R N g : ℕ) (x : Calls) : Type 0 where
+  pub open-step : OpenStep W R N g (x .lent) Opened (x .strip 0)
   pub step : (m : ℕ) → m < x .count → Step (x .call m) (x .strip m) (x .strip (suc m))
 
 -- the number that a call answers, 0 where it is granted
@@ -88,5 +88,5 @@ pub record Lies (call : ℕ → Call) (m l : ℕ) (o : List ℕ) (p : Position) 
   pub puts : Puts (call l) o p
 
 -- "A cell is occupied there if it is covered for a piece placed by an earlier call of the list, whatever the strip's words say."
-abbrev pub Occupied : ℕ → (ℕ → Call) → ℕ → Cells
-Occupied R call m = OccupiedBy R (Lies call m)
+abbrev pub Occupied : ℕ → ℕ → ℕ → ℕ → (ℕ → Call) → ℕ → Cells
+Occupied W R N g call m = OccupiedBy W R N g (Lies call m)

@@ -1,6 +1,6 @@
 -- Lists of calls as wrong programs would make them: "We will try: …", document 01's note from the buying office. Demand 3 holds of none
--- of them, whatever words were lent and whatever else the strip holds. The strip has W 10, R 2, N 10, and each call lends the square of
--- 4 by 4 with mask 1, or in turn 0. Assumes nothing.
+-- of them, whatever words were lent and whatever else the strip holds. The strip has W 10, R 2, N 10 and no gap, and each call lends the
+-- square of 4 by 4 with mask 1, or in turn 0. Assumes nothing.
 use mathlib.Core.Path.{_≡_}
 use mathlib.Core.Logic.{_≢_}
 use mathlib.Core.List.{List, [], _∷_}
@@ -50,39 +50,43 @@ repeated lent count c strip = record { lent = lent; count = count; call = λ _. 
 pub record WrongLists : Type 0 where
   -- "'no position' said before searching"
   pub said-before-searching :
-      (lent : List ℕ) (strip : ℕ → List ℕ) → ¬ PlaceDemand3 10 2 10 (calls lent 1 (λ _. Refused (refusal 13 1)) strip)
+      (lent : List ℕ) (strip : ℕ → List ℕ) → ¬ PlaceDemand3 10 2 10 0 (calls lent 1 (λ _. Refused (refusal 13 1)) strip)
   -- "an answer with nothing entered on the strip"
   pub nothing-entered :
-      (lent : List ℕ) (strip : ℕ → List ℕ) → strip 1 ≡ strip 0 → ¬ PlaceDemand3 10 2 10 (calls lent 1 (λ _. Placed (atHeight 0)) strip)
+      (lent : List ℕ) (strip : ℕ → List ℕ) → strip 1 ≡ strip 0 → ¬ PlaceDemand3 10 2 10 0 (calls lent 1 (λ _. Placed (atHeight 0)) strip)
   -- "a strip that takes its first piece and fakes the rest"
-  pub rest-faked : (lent : List ℕ) (strip : ℕ → List ℕ) → strip 2 ≡ strip 1 → ¬ PlaceDemand3 10 2 10 (calls lent 2 stacked strip)
+  pub rest-faked : (lent : List ℕ) (strip : ℕ → List ℕ) → strip 2 ≡ strip 1 → ¬ PlaceDemand3 10 2 10 0 (calls lent 2 stacked strip)
   -- "height 0 always"
-  pub height-0-always : (lent : List ℕ) (strip : ℕ → List ℕ) → ¬ PlaceDemand3 10 2 10 (calls lent 2 (λ _. Placed (atHeight 0)) strip)
+  pub height-0-always : (lent : List ℕ) (strip : ℕ → List ℕ) → ¬ PlaceDemand3 10 2 10 0 (calls lent 2 (λ _. Placed (atHeight 0)) strip)
+  -- S-4: the second square right above the first, on a strip with a gap
+  pub nearer-than-the-gap : (lent : List ℕ) (strip : ℕ → List ℕ) → ¬ PlaceDemand3 10 2 10 1 (calls lent 2 stacked strip)
   -- a free position that is not the best one
-  pub not-the-best : (lent : List ℕ) (strip : ℕ → List ℕ) → ¬ PlaceDemand3 10 2 10 (calls lent 1 (λ _. Placed (atHeight 1)) strip)
+  pub not-the-best : (lent : List ℕ) (strip : ℕ → List ℕ) → ¬ PlaceDemand3 10 2 10 0 (calls lent 1 (λ _. Placed (atHeight 1)) strip)
   -- "all input refused": with any number, on a strip with six records
   pub all-refused :
-      (lent : List ℕ) (strip : ℕ → List ℕ) (n k : ℕ) → length lent ≡ 38 →
-      ¬ PlaceDemand3 10 2 10 (calls lent 1 (λ _. Refused (refusal n k)) strip)
+      (lent : List ℕ) (strip : ℕ → List ℕ) (n k : ℕ) → length lent ≡ 39 →
+      ¬ PlaceDemand3 10 2 10 0 (calls lent 1 (λ _. Refused (refusal n k)) strip)
   -- the same of asks and commits, S-2: an ask that has not searched, that is refused with any number, that answers another position, that
   -- enters
   pub asked-before-searching :
-      (lent : List ℕ) (strip : ℕ → List ℕ) → ¬ Demand3 10 2 10 (repeated lent 1 (ask-call (askFor (NotFound (refusal 13 1)))) strip)
+      (lent : List ℕ) (strip : ℕ → List ℕ) → ¬ Demand3 10 2 10 0 (repeated lent 1 (ask-call (askFor (NotFound (refusal 13 1)))) strip)
   pub asks-refused :
-      (lent : List ℕ) (strip : ℕ → List ℕ) (n k : ℕ) → length lent ≡ 38 →
-      ¬ Demand3 10 2 10 (repeated lent 1 (ask-call (askFor (NotFound (refusal n k)))) strip)
+      (lent : List ℕ) (strip : ℕ → List ℕ) (n k : ℕ) → length lent ≡ 39 →
+      ¬ Demand3 10 2 10 0 (repeated lent 1 (ask-call (askFor (NotFound (refusal n k)))) strip)
   pub asked-not-the-best :
-      (lent : List ℕ) (strip : ℕ → List ℕ) → ¬ Demand3 10 2 10 (repeated lent 1 (ask-call (askFor (Found (atHeight 1)))) strip)
+      (lent : List ℕ) (strip : ℕ → List ℕ) → ¬ Demand3 10 2 10 0 (repeated lent 1 (ask-call (askFor (Found (atHeight 1)))) strip)
   pub ask-enters :
-      (lent : List ℕ) (strip : ℕ → List ℕ) (a : Asking) → strip 1 ≢ strip 0 → ¬ Demand3 10 2 10 (repeated lent 1 (ask-call (askFor a)) strip)
+      (lent : List ℕ) (strip : ℕ → List ℕ) (a : Asking) → strip 1 ≢ strip 0 →
+      ¬ Demand3 10 2 10 0 (repeated lent 1 (ask-call (askFor a)) strip)
   -- a commit with nothing entered, two on one place, one that has not looked, one that is refused with any number
   pub commit-not-entered :
       (lent : List ℕ) (strip : ℕ → List ℕ) → strip 1 ≡ strip 0 →
-      ¬ Demand3 10 2 10 (repeated lent 1 (commit-call (commitAt 0 Committed)) strip)
+      ¬ Demand3 10 2 10 0 (repeated lent 1 (commit-call (commitAt 0 Committed)) strip)
   pub commit-on-a-piece :
-      (lent : List ℕ) (strip : ℕ → List ℕ) → ¬ Demand3 10 2 10 (repeated lent 2 (commit-call (commitAt 0 Committed)) strip)
+      (lent : List ℕ) (strip : ℕ → List ℕ) → ¬ Demand3 10 2 10 0 (repeated lent 2 (commit-call (commitAt 0 Committed)) strip)
   pub commit-before-looking :
-      (lent : List ℕ) (strip : ℕ → List ℕ) → ¬ Demand3 10 2 10 (repeated lent 1 (commit-call (commitAt 0 (NotCommitted (refusal 18 0)))) strip)
+      (lent : List ℕ) (strip : ℕ → List ℕ) →
+      ¬ Demand3 10 2 10 0 (repeated lent 1 (commit-call (commitAt 0 (NotCommitted (refusal 18 0)))) strip)
   pub commits-refused :
-      (lent : List ℕ) (strip : ℕ → List ℕ) (n k : ℕ) → length lent ≡ 38 →
-      ¬ Demand3 10 2 10 (repeated lent 1 (commit-call (commitAt 0 (NotCommitted (refusal n k)))) strip)
+      (lent : List ℕ) (strip : ℕ → List ℕ) (n k : ℕ) → length lent ≡ 39 →
+      ¬ Demand3 10 2 10 0 (repeated lent 1 (commit-call (commitAt 0 (NotCommitted (refusal n k)))) strip)

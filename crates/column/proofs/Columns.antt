@@ -10,7 +10,7 @@ use Rattle.defs.specs.Meaning.Outline.{sides}
 use Rattle.defs.specs.Meaning.Turn.{turned}
 use Rattle.geom.proofs.Extent.{sides-turned}
 use Rattle.outline.specs.Vertex.{Lent}
-use Rattle.slabs.specs.Slab.{InUnits}
+use Rattle.geom.specs.Units.{InUnits}
 use Rattle.entries.specs.Edges.{AllFit, NextAt}
 use Rattle.entries.proofs.Entries.{all-fit}
 use Rattle.join.specs.Runs.{Apart}

@@ -1,8 +1,7 @@
 -- The rows of a column, slab by slab.
 -- Assumes nothing.
 use mathlib.Core.Path.{_≡_, sym, subst}
-use mathlib.Core.Bool.{true}
-use mathlib.Core.Logic.{inl, inr, ⊎-elim, _↔_}
+use mathlib.Core.Logic.{inl, inr, ⊎-elim}
 use mathlib.Core.List.{List}
 use Prim.Native.Nat.{ℕ, _+_, _*_, _-_, _≤_, _<_}
 use native.Mathlib.Omega.{arith}
@@ -10,31 +9,18 @@ use lib.ListN.{length}
 use Rattle.defs.specs.Meaning.Outline.{vy, sides, KeepsOrder}
 use Rattle.defs.specs.Meaning.Turn.{turned}
 use Rattle.defs.specs.Meaning.Cell.{Covered}
-use Rattle.defs.specs.Computing.Cells.{coveredb}
 use Rattle.laws.proofs.Extremes.{greatest-limit}
 use Rattle.geom.proofs.Strip.{lt-or-le}
-use Rattle.geom.proofs.Cells.{narrow, widen}
-use Rattle.geom.proofs.Computed.{cell-covered}
 use Rattle.geom.proofs.Extent.{covered-within, sides-turned}
 use Rattle.outline.specs.Vertex.{Lent, BoundsOf}
-use Rattle.outline.proofs.Vertices.{vertex-0, vertex-1, vertex-2, vertex-3}
-use Rattle.slabs.specs.Slab.{Neat, InSlab, InUnits}
+use Rattle.outline.proofs.Limit.{vertex-limit}
+use Rattle.geom.specs.Units.{InUnits}
+use Rattle.slabs.specs.Slab.{Neat, InSlab}
 use Rattle.slabs.proofs.Cut.{slab-covered, covered-slab}
 use Rattle.gaps.specs.Gaps.{SlabRow, Adds, Room}
 use Rattle.column.specs.Rows.{Buffers}
 
 module _ {o : List ℕ} {l r f h : ℕ} (k : Lent o) (b : BoundsOf o l r f h) where
-  low-turned : (t i : ℕ) → t ≤ 3 → i < sides o → vy (turned o t) i ≤ 16000
-  low-turned t i m s =
-      ⊎-elim
-      (λ p.
-      ⊎-elim (λ q. let v = vertex-0 k b t i s (omega arith) in omega (arith, v .up, v .y-most))
-      (λ q. let v = vertex-1 k b t i s (omega arith) in omega (arith, v .up, v .y-most)) (lt-or-le t 1))
-      (λ p.
-      ⊎-elim (λ q. let v = vertex-2 k b t i s (omega arith) in omega (arith, v .up, v .y-most))
-      (λ q. let v = vertex-3 k b t i s (omega arith) in omega (arith, v .up, v .y-most)) (lt-or-le t 3))
-      (lt-or-le t 2)
-
   module _ (t : ℕ) (m : t ≤ 3) (keeps : KeepsOrder (turned o t)) where
     some-sides : 0 < sides (turned o t)
     some-sides = subst (λ (n : ℕ). 0 < n) (sym (sides-turned o t)) (omega (arith, k .some))
@@ -42,7 +28,7 @@ module _ {o : List ℕ} {l r f h : ℕ} (k : Lent o) (b : BoundsOf o l r f h) wh
     pub row-limit : (a c y : ℕ) → InUnits (turned o t) a c y → y < 16000
     row-limit a c y u =
         let w = covered-within (turned o t) keeps some-sides 1 (u .k) y (u .there) in
-        omega (arith, w .row, greatest-limit (vy (turned o t)) (sides (turned o t)) 16000 (λ i q. low-turned t i m (subst (λ (n : ℕ). i < n) (sides-turned o t) q)))
+        omega (arith, w .row, greatest-limit (vy (turned o t)) (sides (turned o t)) 16000 (λ i q. vertex-limit k b t m i (subst (λ (n : ℕ). i < n) (sides-turned o t) q) .1))
 
     pub units-more : (s : ℕ) {a c : ℕ} {l0 h0 l1 h1 l2 h2 : List ℕ} {n p q : ℕ} → s ≤ a → Neat (turned o t) a c → Adds (InUnits (turned o t) s a) l0 h0 l1 h1 n p → Adds (SlabRow (turned o t) a c) l1 h1 l2 h2 p q → Adds (InUnits (turned o t) s c) l0 h0 l2 h2 n q
     units-more s {a} {c} {l0} {h0} {l1} {h1} {l2} {h2} {n} {p} {q} sa neat u v = go (c - a) (omega (arith, neat .wide))
@@ -78,15 +64,6 @@ module _ {o : List ℕ} {l r f h : ℕ} (k : Lent o) (b : BoundsOf o l r f h) wh
 
     pub units-end : {l h l' h' : List ℕ} {n r : ℕ} (s a c : ℕ) → Adds (InUnits (turned o t) s a) l h l' h' n r → a ≡ c → Adds (InUnits (turned o t) s c) l h l' h' n r
     units-end {l} {h} {l'} {h'} {n} {r} s a c u e = subst (λ (x : ℕ). Adds (InUnits (turned o t) s x) l h l' h' n r) e u
-
-    -- the rows of the unit columns of a resolution column are its covered cells
-    pub column-rows : (R i y : ℕ) → InUnits (turned o t) (i * R) ((i + 1) * R) y ↔ (coveredb (turned o t) R i y ≡ true)
-    column-rows R i y = (
-      λ u. cell-covered (turned o t) keeps some-sides R i y .1 (widen (record { k = u .k; from = u .from; to = u .to; there = u .there })),
-      λ e.
-          let u = narrow (cell-covered (turned o t) keeps some-sides R i y .0 e) in
-          record { k = u .k; from = u .from; to = u .to; there = u .there },
-    )
 
 pub units-none : (v : List ℕ) (s : ℕ) (l h : List ℕ) → Adds (InUnits v s s) l h l h 0 0
 units-none v s l h =

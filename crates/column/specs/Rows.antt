@@ -9,7 +9,7 @@ use lib.Dec.{ltb}
 use lib.ListN.{length, getD}
 use Rattle.join.specs.Runs.{Apart, Holds}
 use Rattle.defs.specs.Meaning.Outline.{sides}
-use Rattle.slabs.specs.Slab.{InUnits}
+use Rattle.geom.specs.Units.{InUnits}
 use Rattle.entries.specs.Edges.{NextAt}
 use Rattle.section.specs.Slabs.{Kept}
 use Rattle.gaps.specs.Gaps.{Adds, SlabRow}

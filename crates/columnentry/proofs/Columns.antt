@@ -63,7 +63,7 @@ module _ {f l h r : List ℕ} {g : Entry} {k : ℕ} {b : Built} (n : Next f l h 
         }
 
     pub column-done : {l₂ h₂ : List ℕ} {e u : ℕ} → Split r g (k + 1) e →
-        Added l₁ h₁ l₂ h₂ r (b .runs) (b .runs + (to - from)) u (g .height) (b .used) e →
+        Added l₁ h₁ l₂ h₂ r (b .runs) (b .runs + (to - from)) u (g .width) (g .height) (b .used) e →
         EntersColumn f l h r l₀ h₀ l₂ h₂ g k b (record { runs = u; used = e })
     column-done s d =
         record {

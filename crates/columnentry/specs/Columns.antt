@@ -16,7 +16,8 @@ pub record Old (f l h : List ℕ) (g : Entry) : Type 0 where
   pub count : ℕ
   pub laid : Laid f l h (g .width) (g .columns) count
 
--- the limits, and a piece that lies within the table
+-- The limits, and a piece whose runs all begin on the table. They may go past its top, and there may be some past its last column: what
+-- is past them does not count.
 pub record Fits (r : List ℕ) (g : Entry) : Type 0 where
   pub width : g .width ≤ 16000
   pub columns : g .columns ≤ 4096
@@ -24,8 +25,10 @@ pub record Fits (r : List ℕ) (g : Entry) : Type 0 where
   pub wide : ℕ
   pub tall : ℕ
   pub piece : PieceRuns r (g .runs) wide tall
-  pub right : g .column + wide ≤ g .columns
-  pub top : g .height + tall ≤ g .width
+  pub right : g .column ≤ g .columns
+  pub height : g .height ≤ g .width
+  pub rows : tall ≤ 16400
+  pub feet : (m : ℕ) → m < g .runs → g .height + runLow r m < g .width
 
 -- the words before b are kept
 pub record Kept (old new : List ℕ) (b : ℕ) : Type 0 where
@@ -52,20 +55,21 @@ pub record Room (l h : List ℕ) (b t : ℕ) : Type 0 where
   pub lows : 24001 ≤ length l
   pub highs : 24001 ≤ length h
 
--- row x is in one of the piece's runs a to e - 1, at height y
-pub record OfRuns (r : List ℕ) (y a e x : ℕ) : Type 0 where
+-- row x, below W, is in one of the piece's runs a to e - 1, at height y
+pub record OfRuns (r : List ℕ) (W y a e x : ℕ) : Type 0 where
   pub which : ℕ
   pub from : a ≤ which
   pub to : which < e
   pub low : y + runLow r which ≤ x
   pub high : x < y + runHigh r which
+  pub top : x < W
 
 -- the runs b to u - 1 have the rows of the runs b to t - 1 and of the piece's runs a to e - 1, and no other
-pub record Added (l h l' h' r : List ℕ) (b t u y a e : ℕ) : Type 0 where
+pub record Added (l h l' h' r : List ℕ) (b t u W y a e : ℕ) : Type 0 where
   pub room : Room l' h' b u
   pub held : (x : ℕ) → Holds l h b t x → Holds l' h' b u x
-  pub added : (x : ℕ) → OfRuns r y a e x → Holds l' h' b u x
-  pub only : (x : ℕ) → Holds l' h' b u x → Holds l h b t x ⊎ OfRuns r y a e x
+  pub added : (x : ℕ) → OfRuns r W y a e x → Holds l' h' b u x
+  pub only : (x : ℕ) → Holds l' h' b u x → Holds l h b t x ⊎ OfRuns r W y a e x
   pub lows : Kept l l' b
   pub highs : Kept h h' b
 
@@ -77,8 +81,8 @@ pub record ColumnIs (f l h r l' h' : List ℕ) (g : Entry) (k b u : ℕ) : Type 
   pub to : Split r g (k + 1) e
   pub runs : Apart l' h' b u
   pub held : (x : ℕ) → Occupied f l h k x → Holds l' h' b u x
-  pub added : (x : ℕ) → OfRuns r (g .height) a e x → Holds l' h' b u x
-  pub only : (x : ℕ) → Holds l' h' b u x → Occupied f l h k x ⊎ OfRuns r (g .height) a e x
+  pub added : (x : ℕ) → OfRuns r (g .width) (g .height) a e x → Holds l' h' b u x
+  pub only : (x : ℕ) → Holds l' h' b u x → Occupied f l h k x ⊎ OfRuns r (g .width) (g .height) a e x
 
 -- column k comes next: the new table has b .runs runs, and the piece's runs before b .used are entered
 pub record Next (f l h r : List ℕ) (g : Entry) (k : ℕ) (b : Built) : Type 0 where

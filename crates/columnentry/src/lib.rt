@@ -52,7 +52,8 @@ fn column_end(runs: &[u16], g: Entry, k: usize, a: usize) -> usize
     e
 }
 
-// Joins the piece's runs a to e - 1 to the runs base to t - 1, and answers where the runs end then.
+// Joins the piece's runs a to e - 1, as far as they lie below the table's width, to the runs base to t - 1, and answers where the runs end
+// then.
 fn add_runs(
     runs: &[u16],
     g: Entry,
@@ -65,9 +66,10 @@ fn add_runs(
 ) -> usize
     requires { ⌜ Fits (now runs) g ⌝ ∗ ⌜ Room (now lows) (now highs) base t ⌝ ∗ ⌜ (a ≤ e) × (e ≤ g .runs) ⌝ }
     ensures { λ u. ⌜ Added (now (lows .entry)) (now (highs .entry)) (now (lows .exit)) (now (highs .exit)) (now (runs .entry))
-        base t u (g .height) a e ⌝ }
+        base t u (g .width) (g .height) a e ⌝ }
 {
     let y = g.height;
+    let top = g.width;
     let mut i = a;
     let mut u = t;
     while i < e {
@@ -77,7 +79,7 @@ fn add_runs(
             base,
             u,
             y + runs[3 * i + 1],
-            y + runs[3 * i + 2],
+            numbers::less(y + runs[3 * i + 2], top),
         );
         i += 1;
     }

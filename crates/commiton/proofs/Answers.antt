@@ -5,6 +5,7 @@ use mathlib.Core.Bool.{Bool, true, false}
 use mathlib.Core.List.{List}
 use Prim.Native.Nat.{ℕ, _+_, _*_, _/_, _≤_, _<_}
 use native.Mathlib.Omega.{arith}
+use lib.Dec.{ltb}
 use lib.ListN.{length}
 use borrow.Author.Tests.{lt-ltb, le-leb, lt-leb}
 use Rattle.defs.specs.declared.Position.{Position}
@@ -25,7 +26,7 @@ use Rattle.outline.specs.Vertex.{Lent, BoundsOf}
 use Rattle.checks.proofs.Turned.{lent-of}
 use Rattle.cells.specs.Put.{PutRuns, Resolution}
 use Rattle.cover.specs.Turn.{turnNo}
-use Rattle.cover.proofs.Answers.{passed, outline-by-turn}
+use Rattle.cover.proofs.Answers.{passed, outline-by-turn, some-without, none-without}
 use Rattle.tables.specs.Flat.{Laid, tableOf}
 use Rattle.tables.specs.Piece.{Stands}
 use Rattle.walk.specs.Free.{Frame}
@@ -35,54 +36,58 @@ use Rattle.spot.specs.Spot.{FitsThere}
 use Rattle.position.specs.Table.{Tabled, Enterable, EntersAt}
 use Rattle.commiton.specs.Commits.{TurnPasses, placedAt, CommittedOn}
 
-module _ (W R N Q : ℕ) (held : List (List Rows)) (o : List ℕ) (p : Position) (words : ℕ) where
+module _ (W R N g Q : ℕ) (held : List (List Rows)) (o : List ℕ) (p : Position) (words : ℕ) where
   abbrev count : ℕ
-  count = countRuns (pieceRuns o (p .turn) R)
+  count = countRuns (pieceRuns o (p .turn) R g)
 
   -- a "no" to one of 7 to 10
-  pub to-ten : {n : ℕ} → n ≡ turnNo o (p .turn) → 0 < n → Refused (refusal n 1) ≡ commitOn W R N Q held o p words
+  pub to-ten : {n : ℕ} → n ≡ turnNo o (p .turn) → 0 < n → Refused (refusal n 1) ≡ commitOn W R N g Q held o p words
   unfolding commitOn
-  to-ten {n} e h = rw (outline-by-turn o (p .turn) R words, ← e, pos-not-zero n h, pos-not-zero n h) refl
+  to-ten {n} e h = rw (outline-by-turn o (p .turn) R g words, ← e, pos-not-zero n h, pos-not-zero n h) refl
 
-  module _ (none : 0 ≡ turnNo o (p .turn)) where
-    pub eleven : count ≡ 0 → Refused (refusal 11 1) ≡ commitOn W R N Q held o p words
+  module _ (none : 0 ≡ turnNo o (p .turn)) (Rpos : 1 ≤ R) where
+    pub eleven : count ≡ 0 → Refused (refusal 11 1) ≡ commitOn W R N g Q held o p words
     unfolding commitOn
-    eleven z = rw (outline-by-turn o (p .turn) R words, ← none, z) refl
+    eleven z = rw (outline-by-turn o (p .turn) R g words, ← none, none-without o (p .turn) R g none Rpos z) refl
 
     module _ (some : 0 < count) where
-      pub twelve : words < 3 * count → Refused (refusal 12 1) ≡ commitOn W R N Q held o p words
+      -- the test of 11, which is asked without the gap
+      passes-11 : ltb 0 (countRuns (pieceRuns o (p .turn) R 0)) ≡ true
+      passes-11 = lt-ltb 0 (countRuns (pieceRuns o (p .turn) R 0)) (some-without o (p .turn) R g none Rpos .0 some)
+
+      pub twelve : words < 3 * count → Refused (refusal 12 1) ≡ commitOn W R N g Q held o p words
       unfolding commitOn
       twelve l =
           rw (
-            outline-by-turn o (p .turn) R words,
+            outline-by-turn o (p .turn) R g words,
             ← none,
-            lt-ltb 0 count some,
-            room-one o R words (p .turn) (passed o (p .turn) none .nine),
+            passes-11,
+            room-one o R g words (p .turn) (passed o (p .turn) none .nine),
             lt-leb (3 * count) words l,
           ) refl
 
       module _ (room : 3 * count ≤ words) where
-        pub eighteen : q18b W R N held o p ≡ false → Refused (refusal 18 0) ≡ commitOn W R N Q held o p words
+        pub eighteen : q18b W R N g held o p ≡ false → Refused (refusal 18 0) ≡ commitOn W R N g Q held o p words
         unfolding commitOn
         eighteen e =
             rw (
-              outline-by-turn o (p .turn) R words,
+              outline-by-turn o (p .turn) R g words,
               ← none,
-              lt-ltb 0 count some,
-              room-one o R words (p .turn) (passed o (p .turn) none .nine),
+              passes-11,
+              room-one o R g words (p .turn) (passed o (p .turn) none .nine),
               le-leb (3 * count) words room,
               e,
             ) refl
 
-        pub fourteen : q18b W R N held o p ≡ true →
-            (ask (q14b W R Q held o p) (Refused (refusal 14 1)) λ _. Committed) ≡ commitOn W R N Q held o p words
+        pub fourteen : q18b W R N g held o p ≡ true →
+            (ask (q14b W R g Q held o p) (Refused (refusal 14 1)) λ _. Committed) ≡ commitOn W R N g Q held o p words
         unfolding commitOn
         fourteen e =
             rw (
-              outline-by-turn o (p .turn) R words,
+              outline-by-turn o (p .turn) R g words,
               ← none,
-              lt-ltb 0 count some,
-              room-one o R words (p .turn) (passed o (p .turn) none .nine),
+              passes-11,
+              room-one o R g words (p .turn) (passed o (p .turn) none .nine),
               le-leb (3 * count) words room,
               e,
             ) refl
@@ -94,16 +99,16 @@ same-test false true f g = g refl
 same-test false false f g = refl
 
 -- 18, as it was tried
-pub fits-is : {f l h r : List ℕ} {W N n k wide tall : ℕ} {a : Bool} (R : ℕ) (o : List ℕ) (p : Position) → Laid f l h W N n →
-    Stands (pieceRuns o (p .turn) R) r k → wide ≡ columnsFor (extentX o (p .turn)) R → tall ≡ extentY o (p .turn) →
-    FitsThere f l h r N W k wide tall (p .column) (p .height) a → a ≡ q18b W R N (tableOf f l h N) o p
+pub fits-is : {f l h r : List ℕ} {W N n k wide tall : ℕ} {a : Bool} (R g : ℕ) (o : List ℕ) (p : Position) → g ≤ 400 → Laid f l h W N n →
+    Stands (pieceRuns o (p .turn) R g) r k → wide ≡ columnsFor (extentX o (p .turn)) R → tall ≡ extentY o (p .turn) →
+    FitsThere f l h r N W k wide tall (p .column) (p .height) a → a ≡ q18b W R N g (tableOf f l h N) o p
 unfolding q18b endColumn top
-fits-is {f} {l} {h} {r} {W} {N} {a = a} R o p laid stood ew et t =
+fits-is {f} {l} {h} {r} {W} {N} {a = a} R g o p small laid stood ew et t =
     let there = rw (ew, et) at (t .is) in
-    let free = free-is o (p .turn) R laid stood (p .column) (p .height) in
+    let free = free-is o (p .turn) R g small laid stood (p .column) (p .height) in
     let both =
     and-decides (and-decides (leb-decides (p .column + columnsFor (extentX o (p .turn)) R) N) (leb-decides (p .height + extentY o (p .turn)) W))
-    (self (freeb (p .height) (pieceRuns o (p .turn) R) (dropN (p .column) (tableOf f l h N)))) in
+    (self (freeb (p .height) (pieceRuns o (p .turn) R g) (dropN (p .column) (tableOf f l h N)))) in
     same-test a _
     (λ e. let q = there .0 e in both .1 ((q .0, q .1), free (q .0) .0 (q .2)))
     (λ e. let q = both .0 e in there .1 (q .0 .0, q .0 .1, free (q .0 .0) .1 (q .1)))
@@ -122,30 +127,30 @@ module _ {o : List ℕ} {t : ℕ} (y : TurnPasses o t) where
   pub keeps : KeepsOrder (turned o t)
   keeps = keeps-decides o t .0 (passed o t (y .none-no) .ten)
 
-pub resolution : {f l h f' l' h' : List ℕ} {W R N Q : ℕ} → Tabled f l h f' l' h' W R N Q → Resolution R
+pub resolution : {f l h f' l' h' : List ℕ} {W R N g Q : ℕ} → Tabled f l h f' l' h' W R N g Q → Resolution R
 resolution tabled = let r = tabled .limits .resolution in record { least = r .at-least; most = r .at-most }
 
 -- a refusal leaves no next table
-pub refused-on : {f l h f' l' h' o : List ℕ} {W R N Q words number ordinal : ℕ} {p : Position} {a : Placing} →
-    a ≡ NotPlaced (refusal number ordinal) → Refused (refusal number ordinal) ≡ commitOn W R N Q (tableOf f l h N) o p words →
-    CommittedOn f l h f' l' h' o W R N Q p words a
+pub refused-on : {f l h f' l' h' o : List ℕ} {W R N g Q words number ordinal : ℕ} {p : Position} {a : Placing} →
+    a ≡ NotPlaced (refusal number ordinal) → Refused (refusal number ordinal) ≡ commitOn W R N g Q (tableOf f l h N) o p words →
+    CommittedOn f l h f' l' h' o W R N g Q p words a
 refused-on {p = p} e q = rw e (record { answer = ap (placedAt p) q; next = tt })
 
-module _ {f l h o work work' : List ℕ} {W R N left right foot head n k w wide tall : ℕ} (p : Position) (laid : Laid f l h W N n)
-    (none : TurnPasses o (p .turn)) (bounds : BoundsOf o left right foot head) (put : PutRuns o (p .turn) R work work' k)
-    (room : k ≤ length work' / 3) (across : w ≡ extentX o (p .turn)) (columns : wide ≡ columnsFor w R)
-    (up : tall ≡ extentY o (p .turn)) where
+module _ {f l h o work work' : List ℕ} {W R N g left right foot head n k w wide tall : ℕ} (p : Position) (small : g ≤ 400)
+    (laid : Laid f l h W N n) (none : TurnPasses o (p .turn)) (bounds : BoundsOf o left right foot head)
+    (put : PutRuns o (p .turn) R g work work' k) (room : k ≤ length work' / 3) (across : w ≡ extentX o (p .turn))
+    (columns : wide ≡ columnsFor w R) (up : tall ≡ extentY o (p .turn)) where
   wide-is : wide ≡ columnsFor (extentX o (p .turn)) R
   wide-is = columns ∙ ap (λ (x : ℕ). columnsFor x R) across
 
   pub frame : Frame f l h work' N W k wide tall
-  frame = rw (wide-is, up) (frame-of o (p .turn) R laid (stands put room))
+  frame = rw (wide-is, up) (frame-of o (p .turn) R g small laid (stands put room))
 
   module _ {a : Bool} (there : FitsThere f l h work' N W k wide tall (p .column) (p .height) a) where
-    pub tested : a ≡ q18b W R N (tableOf f l h N) o p
-    tested = fits-is R o p laid (stands put room) wide-is up there
+    pub tested : a ≡ q18b W R N g (tableOf f l h N) o p
+    tested = fits-is R g o p small laid (stands put room) wide-is up there
 
-    pub enterable : a ≡ true → {words : ℕ} → words ≡ length work' → Enterable f l h o W R N left right foot head words p
+    pub enterable : a ≡ true → {words : ℕ} → words ≡ length work' → Enterable f l h o W R N g left right foot head words p
     enterable e q =
         let on = there .is .0 e in
         record {
@@ -163,12 +168,12 @@ asked-at : (p : Position) (b : Bool) →
 asked-at p true = refl
 asked-at p false = refl
 
-pub entered-on : {f l h f' l' h' o : List ℕ} {W R N Q words : ℕ} {p : Position} {a : Placing} →
-    EntersAt f l h f' l' h' o W R N Q p a →
-    (ask (q14b W R Q (tableOf f l h N) o p) (Refused (refusal 14 1)) λ _. Committed) ≡ commitOn W R N Q (tableOf f l h N) o p words →
-    CommittedOn f l h f' l' h' o W R N Q p words a
-entered-on {f} {l} {h} {o = o} {W} {R} {N} {Q} {p = p} enters q =
+pub entered-on : {f l h f' l' h' o : List ℕ} {W R N g Q words : ℕ} {p : Position} {a : Placing} →
+    EntersAt f l h f' l' h' o W R N g Q p a →
+    (ask (q14b W R g Q (tableOf f l h N) o p) (Refused (refusal 14 1)) λ _. Committed) ≡ commitOn W R N g Q (tableOf f l h N) o p words →
+    CommittedOn f l h f' l' h' o W R N g Q p words a
+entered-on {f} {l} {h} {o = o} {W} {R} {N} {g} {Q} {p = p} enters q =
     record {
-      answer = enters .answer ∙ asked-at p (q14b W R Q (tableOf f l h N) o p) ∙ ap (placedAt p) q;
+      answer = enters .answer ∙ asked-at p (q14b W R g Q (tableOf f l h N) o p) ∙ ap (placedAt p) q;
       next = enters .next;
     }

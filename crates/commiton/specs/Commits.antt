@@ -21,6 +21,6 @@ abbrev pub placedAt : Position → Committing → Placing
 placedAt p Committed = Placed p
 placedAt p (NotCommitted r) = NotPlaced r
 
-pub record CommittedOn (f l h f' l' h' o : List ℕ) (W R N Q : ℕ) (p : Position) (words : ℕ) (a : Placing) : Type 0 where
-  pub answer : a ≡ placedAt p (commitOn W R N Q (tableOf f l h N) o p words)
-  pub next : NextIf f l h f' l' h' o W R N Q a
+pub record CommittedOn (f l h f' l' h' o : List ℕ) (W R N g Q : ℕ) (p : Position) (words : ℕ) (a : Placing) : Type 0 where
+  pub answer : a ≡ placedAt p (commitOn W R N g Q (tableOf f l h N) o p words)
+  pub next : NextIf f l h f' l' h' o W R N g Q a

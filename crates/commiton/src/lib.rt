@@ -13,6 +13,7 @@ use walk::Search;
 // Questions 11, 12, 18 and 14 of an outline that passes 7 to 10 in the position's turn.
 fn commit_runs(
     g: Figures,
+    gap: u16,
     q: usize,
     first: &[u16],
     lows: &[u16],
@@ -24,13 +25,13 @@ fn commit_runs(
     lows2: &mut [u16],
     highs2: &mut [u16],
 ) -> Placing
-    requires { ⌜ Tabled (now first) (now lows) (now highs) (now first2) (now lows2) (now highs2) (g .width) (g .resolution) (g .columns) q ⌝
+    requires { ⌜ Tabled (now first) (now lows) (now highs) (now first2) (now lows2) (now highs2) (g .width) (g .resolution) (g .columns) gap q ⌝
         ∗ ⌜ TurnPasses (now o) (p .turn) ⌝ }
-    ensures { λ a. ⌜ CommittedOn (now (first .entry)) (now (lows .entry)) (now (highs .entry)) (now (first2 .exit)) (now (lows2 .exit)) (now (highs2 .exit)) (now (o .entry)) (g .width) (g .resolution) (g .columns) q p (length (now (work .entry))) a ⌝ }
+    ensures { λ a. ⌜ CommittedOn (now (first .entry)) (now (lows .entry)) (now (highs .entry)) (now (first2 .exit)) (now (lows2 .exit)) (now (highs2 .exit)) (now (o .entry)) (g .width) (g .resolution) (g .columns) gap q p (length (now (work .entry))) a ⌝ }
 {
     let b = outline::bounds_of(o);
     let e = outline::extent_of(o, b, p.turn);
-    let k = cells::put_runs(o, b, p.turn, g.resolution, e.w, work);
+    let k = cells::put_runs(o, b, p.turn, g.resolution, gap, e.w, work);
     if k == 0 {
         return position::refused(11, 1);
     }
@@ -53,6 +54,7 @@ fn commit_runs(
     };
     position::enter_at(
         g,
+        gap,
         q,
         first,
         lows,
@@ -71,6 +73,7 @@ fn commit_runs(
 // Questions 7 to 12, 18 and 14 of an outline at a position; where it is entered, the next table holds the runs after it.
 pub fn commit_on(
     g: Figures,
+    gap: u16,
     q: usize,
     first: &[u16],
     lows: &[u16],
@@ -82,12 +85,25 @@ pub fn commit_on(
     lows2: &mut [u16],
     highs2: &mut [u16],
 ) -> Placing
-    requires { ⌜ Tabled (now first) (now lows) (now highs) (now first2) (now lows2) (now highs2) (g .width) (g .resolution) (g .columns) q ⌝ }
-    ensures { λ a. ⌜ CommittedOn (now (first .entry)) (now (lows .entry)) (now (highs .entry)) (now (first2 .exit)) (now (lows2 .exit)) (now (highs2 .exit)) (now (o .entry)) (g .width) (g .resolution) (g .columns) q p (length (now (work .entry))) a ⌝ }
+    requires { ⌜ Tabled (now first) (now lows) (now highs) (now first2) (now lows2) (now highs2) (g .width) (g .resolution) (g .columns) gap q ⌝ }
+    ensures { λ a. ⌜ CommittedOn (now (first .entry)) (now (lows .entry)) (now (highs .entry)) (now (first2 .exit)) (now (lows2 .exit)) (now (highs2 .exit)) (now (o .entry)) (g .width) (g .resolution) (g .columns) gap q p (length (now (work .entry))) a ⌝ }
 {
     let n = cover::turn_no(o, p.turn);
     if n != 0 {
         return position::refused(n, 1);
     }
-    commit_runs(g, q, first, lows, highs, o, p, work, first2, lows2, highs2)
+    commit_runs(
+        g,
+        gap,
+        q,
+        first,
+        lows,
+        highs,
+        o,
+        p,
+        work,
+        first2,
+        lows2,
+        highs2,
+    )
 }

@@ -12,7 +12,7 @@ use lib.ListN.{length, getD, take, drop}
 use Rattle.defs.specs.Answer.{Outcome}
 use Rattle.defs.specs.declared.Position.{Position}
 use Rattle.defs.specs.Meaning.Cell.{Cells}
-use Rattle.defs.specs.Meaning.Strip.{widthOf, resolutionOf, columnsOf}
+use Rattle.defs.specs.Meaning.Strip.{widthOf, resolutionOf, columnsOf, gapOf}
 use Rattle.defs.specs.Meaning.Placing.{Best, cellsIn}
 use Rattle.defs.specs.Meaning.Sheet.{afterPiece}
 use Rattle.defs.specs.Meaning.Question.{Question4, Question5, Question6, Question7Sheet}
@@ -91,16 +91,16 @@ taken-wide-is n qs a p e h = go (a .number) refl
 
 -- the lists of the calls; ask has that of place
 
-pub open-ended : (W R N words : ℕ) → Ended 0 (openQuestions W R N words)
-open-ended W R N words =
-    more λ _. more λ _. more λ _. more λ _.
+pub open-ended : (W R N g words : ℕ) → Ended 0 (openQuestions W R N g words)
+open-ended W R N g words =
+    more λ _. more λ _. more λ _. more λ _. more λ _.
     end λ vs e. ap length e
 
-pub cover-ended : (o : List ℕ) (t R words : ℕ) → Ended 1 (coverQuestions o t R words)
-cover-ended o t R words =
-    more λ _. more λ _. more λ _. more λ _.
+pub cover-ended : (o : List ℕ) (t R g words : ℕ) → Ended 1 (coverQuestions o t R g words)
+cover-ended o t R g words =
+    more λ _. more λ _. more λ _. more λ _. more λ _.
     more λ _. more λ _. more λ _.
-    end λ vs (g : (n : ℕ) × (vs ≡ n ∷ []) × RunsAre (cellsIn R o t) n). ap length (g .1)
+    end λ vs (g : (n : ℕ) × (vs ≡ n ∷ []) × RunsAre (cellsIn R g o t) n). ap length (g .1)
 
 pub place-ended : (s : List ℕ) (C : Cells) (o : List ℕ) (mask words : ℕ) → Ended 3 (placeQuestions s C o mask words)
 unfolding placeQuestions Question5
@@ -110,7 +110,7 @@ place-ended s C o mask words =
     end λ vs
     (g :
     (p : Position) × (vs ≡ p .turn ∷ p .column ∷ p .height ∷ []) ×
-    Best (widthOf s) (resolutionOf s) (columnsOf s) C o mask p). ap length (g .1)
+    Best (widthOf s) (resolutionOf s) (columnsOf s) (gapOf s) C o mask p). ap length (g .1)
 
 pub commit-ended : (s : List ℕ) (C : Cells) (o : List ℕ) (p : Position) (words : ℕ) → Ended 0 (commitQuestions s C o p words)
 unfolding commitQuestions Question5
@@ -147,12 +147,12 @@ write-ended W R N ws bytes =
     list-ended 1 R 1 (getD ws 0 0) (drop 1 ws) 0 _
     (λ v. more λ _. more λ _. end λ vs e. ap length e)
 
-pub lay-ended : (b : List ℕ) (strip out work : ℕ) → Ended 2 (layQuestions b strip out work)
+pub lay-ended : (b : List ℕ) (g strip out work : ℕ) → Ended 2 (layQuestions b g strip out work)
 unfolding layQuestionsTo Question4 Question6
-lay-ended b strip out work =
-    more λ _. more λ _. more λ _. more λ _. more λ _.
+lay-ended b g strip out work =
+    more λ _. more λ _. more λ _. more λ _. more λ _. more λ _.
     more λ _. more λ (q6 : Question6 b).
-    chain-ended 2 b 1 (q6 .0) _ (more λ _. end λ vs (g : LaidTotals b work _ (q6 .0) vs). ap length (g .values-are))
+    chain-ended 2 b 1 (q6 .0) _ (more λ _. end λ vs (g : LaidTotals b g work _ (q6 .0) vs). ap length (g .values-are))
 
 pub retrace-ended : (o : List ℕ) → Ended 2 (retraceQuestions o)
 retrace-ended o =

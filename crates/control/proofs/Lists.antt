@@ -24,9 +24,9 @@ use Rattle.defs.specs.declared.Laying.{Laying}
 use Rattle.defs.specs.declared.Laying.the-variants.{Laid, Refused as NotLaid}
 use Rattle.defs.specs.Answer.{opening, placing, asking, committing, laying}
 use Rattle.defs.specs.Meaning.Limits.{mostTurn}
-use Rattle.defs.specs.Meaning.Strip.{Holds, widthOf, resolutionOf, columnsOf}
+use Rattle.defs.specs.Meaning.Strip.{Holds, widthOf, resolutionOf, columnsOf, gapOf}
 use Rattle.defs.specs.Computing.Test.{ask}
-use Rattle.defs.specs.Computing.Words.{limitsNo, lengthb, wellFormedb, recordsOf, columnsRuns}
+use Rattle.defs.specs.Computing.Words.{figuresNo, lengthb, wellFormedb, recordsOf, columnsRuns}
 use Rattle.defs.specs.Computing.Calls.{refusal, q12b, q14b, q18b, outlineNo, shown, openAnswer, commitOn, commitAnswer, OpenStep, PlaceStep, AskStep, CommitStep}
 use Rattle.defs.specs.Computing.Lay.{LayStep}
 use Rattle.packing.specs.Packed.{first16, second16, third16, fourth16, Packs}
@@ -42,9 +42,9 @@ use Rattle.control.specs.Lists.{unpacked, unpackedAsk, unpackedCommit, p
 use Rattle.control.proofs.Ends.{where-0, where-not, number-0, place-ended, lay-ended}
 
 -- a refused open has a number
-refused-number : (W R N words : ℕ) (r : Refusal) → NotOpened r ≡ openAnswer W R N words → r .number ≢ 0
+refused-number : (W R N g words : ℕ) (r : Refusal) → NotOpened r ≡ openAnswer W R N g words → r .number ≢ 0
 unfolding openAnswer
-refused-number W R N words r = go (limitsNo W R N) (lengthb N words)
+refused-number W R N g words r = go (figuresNo W R N g) (lengthb N words)
   where
     go : (m : ℕ) (l : Bool) →
         NotOpened r ≡ (ask (eqb m 0) (NotOpened (refusal m 0)) λ _. ask l (NotOpened (refusal 4 0)) λ _. Opened) → r .number ≢ 0
@@ -55,12 +55,12 @@ refused-number W R N words r = go (limitsNo W R N) (lengthb N words)
         let u : r ≡ refusal (suc m) 0 = cc in
         omega (arith, ap (λ (x : Refusal). x .number) u)
 
-opened-by : {W R N : ℕ} {s s' : List ℕ} {n : ℕ} → OpenPacked W R N s n s' → first16 n ≡ 0 → OpenStep W R N s Opened s'
-opened-by {W} {R} {N} {s} {s'} {n} x z = go (x .answer) (x .step) (x .packs)
+opened-by : {W R N g : ℕ} {s s' : List ℕ} {n : ℕ} → OpenPacked W R N g s n s' → first16 n ≡ 0 → OpenStep W R N g s Opened s'
+opened-by {W} {R} {N} {g} {s} {s'} {n} x z = go (x .answer) (x .step) (x .packs)
   where
-    go : (a : Opening) → OpenStep W R N s a s' → Packs n (opening a) → OpenStep W R N s Opened s'
+    go : (a : Opening) → OpenStep W R N g s a s' → Packs n (opening a) → OpenStep W R N g s Opened s'
     go Opened y p = y
-    go (NotOpened r) y p = absurd (refused-number W R N (length s) r (y .answer) (sym (p .number) ∙ z))
+    go (NotOpened r) y p = absurd (refused-number W R N g (length s) r (y .answer) (sym (p .number) ∙ z))
 
 position-is : (p : Position) (t c y : ℕ) → t ≡ p .turn → c ≡ p .column → y ≡ p .height →
     p ≡ record { turn = t; column = c; height = y }
@@ -100,9 +100,9 @@ commit-number : (s o : List ℕ) (p : Position) (words : ℕ) (r : Refusal) → 
 unfolding commitAnswer commitOn
 commit-number s o p words r =
     go (wellFormedb s) (outlineNo o (leb (p .turn) mostTurn) (2 ^ p .turn) (resolutionOf s))
-    (q12b o (2 ^ p .turn) (resolutionOf s) words)
-    (q18b (widthOf s) (resolutionOf s) (columnsOf s) (columnsRuns s) o p)
-    (q14b (widthOf s) (resolutionOf s) (recordsOf (columnsOf s) (length s)) (columnsRuns s) o p)
+    (q12b o (2 ^ p .turn) (resolutionOf s) (gapOf s) words)
+    (q18b (widthOf s) (resolutionOf s) (columnsOf s) (gapOf s) (columnsRuns s) o p)
+    (q14b (widthOf s) (resolutionOf s) (gapOf s) (recordsOf (columnsOf s) (length s)) (columnsRuns s) o p)
   where
     told : (m k : ℕ) → NotCommitted r ≡ NotCommitted (refusal (suc m) k) → r .number ≢ 0
     told m k e z = let u : r ≡ refusal (suc m) k = cc in omega (arith, ap (λ (x : Refusal). x .number) u)
@@ -149,8 +149,8 @@ step-read (ask-with mask c) s s' x =
 step-read (commit-at p c) s s' x =
     subst (λ (a : Committing). CommitStep s (c .outline) p (c .work) a s' (c .work-after)) (committing-read x) (x .step)
 
-trace : {W R N : ℕ} {x : PackedCalls} → PackedTrace W R N x → Trace W R N (plain x)
-trace {W} {R} {N} {x} t =
+trace : {W R N g : ℕ} {x : PackedCalls} → PackedTrace W R N g x → Trace W R N g (plain x)
+trace {x = x} t =
     record {
       open-step = opened-by (t .open-step) (t .is-granted);
       step = λ m h. step-read (x .call m) (x .strip m) (x .strip (suc m)) (t .step m h);
@@ -158,29 +158,29 @@ trace {W} {R} {N} {x} t =
 
 pub packed-demand3 : Packed-demand3
 unfolding Packed-demand3 Demand3-holds
-packed-demand3 W R N x t = demand3-holds W R N (plain x) (trace t)
+packed-demand3 W R N g x t = demand3-holds W R N g (plain x) (trace t)
 
 -- lay
 
 totals-are : (t : Totals) (placed used : ℕ) → placed ≡ t .placed → used ≡ t .used → t ≡ record { placed = placed; used = used }
 totals-are t placed used ep eu = rw (ep, eu)
 
-laid-by : {b s out work : List ℕ} {n : ℕ} {s' out' work' : List ℕ} → LayPacked b s out work n s' out' work' → first16 n ≡ 0 →
-    LayStep b s out work (Laid (record { placed = second16 n; used = third16 n })) s' out' work'
-laid-by {b} {s} {out} {work} {n} {s'} {out'} {work'} x z =
+laid-by : {b : List ℕ} {g : ℕ} {s out work : List ℕ} {n : ℕ} {s' out' work' : List ℕ} → LayPacked b g s out work n s' out' work' → first16 n ≡ 0 →
+    LayStep b g s out work (Laid (record { placed = second16 n; used = third16 n })) s' out' work'
+laid-by {b} {g} {s} {out} {work} {n} {s'} {out'} {work'} x z =
     go (x .answer) (x .step) (x .packs) (demand1-numbers .lay-asks (x .step))
   where
-    go : (a : Laying) → LayStep b s out work a s' out' work' → Packs n (laying a) →
-        Answers (layQuestions b (length s) (length out) (length work)) (laying a) →
-        LayStep b s out work (Laid (record { placed = second16 n; used = third16 n })) s' out' work'
+    go : (a : Laying) → LayStep b g s out work a s' out' work' → Packs n (laying a) →
+        Answers (layQuestions b g (length s) (length out) (length work)) (laying a) →
+        LayStep b g s out work (Laid (record { placed = second16 n; used = third16 n })) s' out' work'
     go (Laid t) y u h =
-        subst (λ (v : Totals). LayStep b s out work (Laid v) s' out' work')
+        subst (λ (v : Totals). LayStep b g s out work (Laid v) s' out' work')
         (totals-are t (second16 n) (third16 n) (ap (λ (vs : List ℕ). getD vs 0 0) (u .values))
         (ap (λ (vs : List ℕ). getD vs 1 0) (u .values))) y
     go (NotLaid r) y u h =
         absurd
-        (omega (arith, number-0 2 _ (laying (NotLaid r)) (lay-ended b (length s) (length out) (length work)) h (sym (u .number) ∙ z) .values))
+        (omega (arith, number-0 2 _ (laying (NotLaid r)) (lay-ended b g (length s) (length out) (length work)) h (sym (u .number) ∙ z) .values))
 
 pub packed-lay : Packed-lay
 unfolding Packed-lay Lay-demand3
-packed-lay b s out work n s' out' work' x z = lay-demand3 b s out work _ s' out' work' (laid-by x z)
+packed-lay b g s out work n s' out' work' x z = lay-demand3 b g s out work _ s' out' work' (laid-by x z)

@@ -18,15 +18,15 @@ pub packed-numbers : PackedNumbers
 packed-numbers =
     record {
       open-asks =
-          λ {W} {R} {N} {s} {n} x.
-          let qs = openQuestions W R N (length s) in
+          λ {W} {R} {N} {g} {s} {n} x.
+          let qs = openQuestions W R N g (length s) in
           let h = demand1-numbers .open-asks (x .step) in
-          subst (Answers qs) (taken-is 0 n qs (opening (x .answer)) (x .packs) (open-ended W R N (length s)) h) h;
+          subst (Answers qs) (taken-is 0 n qs (opening (x .answer)) (x .packs) (open-ended W R N g (length s)) h) h;
       cover-asks =
-          λ {o} {t} {R} {out} {n} x.
-          let qs = coverQuestions o t R (length out) in
+          λ {o} {t} {R} {g} {out} {n} x.
+          let qs = coverQuestions o t R g (length out) in
           let h = demand1-numbers .cover-asks (x .step) in
-          subst (Answers qs) (taken-wide-is n qs (covering (x .answer)) (x .packs) (cover-ended o t R (length out)) h) h;
+          subst (Answers qs) (taken-wide-is n qs (covering (x .answer)) (x .packs) (cover-ended o t R g (length out)) h) h;
       place-asks =
           λ {s} {o} {mask} {work} {n} x.
           let qs = placeQuestions s (Holds s) o mask (length work) in
@@ -53,10 +53,10 @@ packed-numbers =
           let h = demand1-numbers .write-asks (x .step) in
           subst (Answers qs) (taken-wide-is n qs (writing (x .answer)) (x .packs) (write-ended W R N ws (length out)) h) h;
       lay-asks =
-          λ {b} {s} {out} {work} {n} x.
-          let qs = layQuestions b (length s) (length out) (length work) in
+          λ {b} {g} {s} {out} {work} {n} x.
+          let qs = layQuestions b g (length s) (length out) (length work) in
           let h = demand1-numbers .lay-asks (x .step) in
-          subst (Answers qs) (taken-is 2 n qs (laying (x .answer)) (x .packs) (lay-ended b (length s) (length out) (length work)) h) h;
+          subst (Answers qs) (taken-is 2 n qs (laying (x .answer)) (x .packs) (lay-ended b g (length s) (length out) (length work)) h) h;
       retrace-asks =
           λ {o} {n} x.
           let qs = retraceQuestions o in

@@ -35,10 +35,11 @@ takenWide n =
 
 pub record PackedNumbers : Type 0 where
   pub open-asks :
-      {W R N : ℕ} {s : List ℕ} {n : ℕ} {s' : List ℕ} → OpenPacked W R N s n s' → Answers (openQuestions W R N (length s)) (taken 0 n)
+      {W R N g : ℕ} {s : List ℕ} {n : ℕ} {s' : List ℕ} → OpenPacked W R N g s n s' →
+      Answers (openQuestions W R N g (length s)) (taken 0 n)
   pub cover-asks :
-      {o : List ℕ} {t R : ℕ} {out : List ℕ} {n : ℕ} {out' : List ℕ} → CoverPacked o t R out n out' →
-      Answers (coverQuestions o t R (length out)) (takenWide n)
+      {o : List ℕ} {t R g : ℕ} {out : List ℕ} {n : ℕ} {out' : List ℕ} → CoverPacked o t R g out n out' →
+      Answers (coverQuestions o t R g (length out)) (takenWide n)
   pub place-asks :
       {s o : List ℕ} {mask : ℕ} {work : List ℕ} {n : ℕ} {s' work' : List ℕ} → PlacePacked s o mask work n s' work' →
       Answers (placeQuestions s (Holds s) o mask (length work)) (taken 3 n)
@@ -54,8 +55,8 @@ pub record PackedNumbers : Type 0 where
       {W R N : ℕ} {ws out : List ℕ} {n : ℕ} {out' : List ℕ} → WritePacked W R N ws out n out' →
       Answers (writeQuestions W R N ws (length out)) (takenWide n)
   pub lay-asks :
-      {b s out work : List ℕ} {n : ℕ} {s' out' work' : List ℕ} → LayPacked b s out work n s' out' work' →
-      Answers (layQuestions b (length s) (length out) (length work)) (taken 2 n)
+      {b : List ℕ} {g : ℕ} {s out work : List ℕ} {n : ℕ} {s' out' work' : List ℕ} → LayPacked b g s out work n s' out' work' →
+      Answers (layQuestions b g (length s) (length out) (length work)) (taken 2 n)
   pub retrace-asks : {o : List ℕ} {n : ℕ} → RetracePacked o n → Answers (retraceQuestions o) (taken 2 n)
   pub read-path-asks :
       {path out : List ℕ} {n : ℕ} {out' : List ℕ} → PathReadPacked path out n out' →

@@ -60,10 +60,10 @@ pub record PackedCalls : Type 0 where
   pub strip : ℕ → List ℕ
 
 -- a list of the C functions' own calls, the open granted
-pub record PackedTrace (W R N : ℕ) (x : PackedCalls) : Type 0 where
+pub record PackedTrace (W R N g : ℕ) (x : PackedCalls) : Type 0 where
   pub opened : ℕ
   pub is-granted : first16 opened ≡ 0
-  pub open-step : OpenPacked W R N (x .lent) opened (x .strip 0)
+  pub open-step : OpenPacked W R N g (x .lent) opened (x .strip 0)
   pub step : (m : ℕ) → m < x .count → PackedStep (x .call m) (x .strip m) (x .strip (suc m))
 
 unfoldable pub plainCall : PackedCall → Call
@@ -81,11 +81,12 @@ abbrev pub plain : PackedCalls → Calls
 plain x = record { lent = x .lent; count = x .count; call = λ m. plainCall (x .call m); strip = x .strip }
 
 unfoldable pub Packed-demand3 : Type 0
-Packed-demand3 = (W R N : ℕ) (x : PackedCalls) → PackedTrace W R N x → Demand3 W R N (plain x)
+Packed-demand3 = (W R N g : ℕ) (x : PackedCalls) → PackedTrace W R N g x → Demand3 W R N g (plain x)
 
 -- A granted vikelodu_lay is one list of place calls, of which demand 3 holds, with the totals vikelodu_placed and vikelodu_used.
 unfoldable pub Packed-lay : Type 0
 Packed-lay =
-    (b s out work : List ℕ) (n : ℕ) (s' out' work' : List ℕ) → LayPacked b s out work n s' out' work' → first16 n ≡ 0 →
-    (l : LaysList b s (record { placed = second16 n; used = third16 n }) s' out' work) ×
-    PlaceDemand3 (sheetW b) (sheetR b) (sheetN b) (l .list)
+    (b : List ℕ) (g : ℕ) (s out work : List ℕ) (n : ℕ) (s' out' work' : List ℕ) →
+    LayPacked b g s out work n s' out' work' → first16 n ≡ 0 →
+    (l : LaysList b g s (record { placed = second16 n; used = third16 n }) s' out' work) ×
+    PlaceDemand3 (sheetW b) (sheetR b) (sheetN b) g (l .list)

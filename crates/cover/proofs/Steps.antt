@@ -11,81 +11,92 @@ use lib.ListN.{length, take, drop}
 use lib.Seq.{sets, sets-eq, take-at}
 use Rattle.defs.specs.declared.Covering.{Covering}
 use Rattle.defs.specs.declared.Covering.the-variants.{Runs, Refused as NotCovered}
+use Rattle.defs.specs.Meaning.Limits.{mostGap}
 use Rattle.defs.specs.Meaning.Outline.{KeepsOrder}
 use Rattle.defs.specs.Meaning.Turn.{turned, extentX, extentY}
 use Rattle.defs.specs.Meaning.Placing.{columnsFor}
 use Rattle.defs.specs.Computing.Test.{listFrom}
 use Rattle.defs.specs.Computing.Cells.{Rows, joinRow, stretches, coveredb, pieceRuns, countRuns}
 use Rattle.defs.specs.Computing.Calls.{refusal, runsWords, coverAnswer, coverOutput, CoverStep}
-use Rattle.laws.proofs.Questions.{question-16}
+use Rattle.laws.proofs.Questions.{question-16, question-21}
 use Rattle.geom.proofs.Checks.{keeps-decides}
 use Rattle.outline.specs.Vertex.{Lent}
 use Rattle.checks.proofs.Turned.{lent-of}
 use Rattle.cells.specs.Put.{PutRuns, Resolution}
 use Rattle.geom.proofs.RunWords.{runs-length}
 use Rattle.cover.specs.Written.{CoverRuns, Counted}
-use Rattle.cover.proofs.Answers.{passed, cover-11, cover-12, cover-runs}
+use Rattle.cover.proofs.Answers.{passed, some-without, none-without, cover-11, cover-12, cover-runs}
 
--- what 16 and 7 to 10 give
-pub lent : {o : List ℕ} {t R : ℕ} → CoverRuns o t R → Lent o
+-- what 16, 21 and 7 to 10 give
+pub lent : {o : List ℕ} {t R g : ℕ} → CoverRuns o t R g → Lent o
 lent {o} {t} c = let p = passed o t (c .none-no) in lent-of o (p .seven) (p .eight)
 
-pub turn-limit : {o : List ℕ} {t R : ℕ} → CoverRuns o t R → t ≤ 3
+pub turn-limit : {o : List ℕ} {t R g : ℕ} → CoverRuns o t R g → t ≤ 3
 turn-limit {o} {t} c = passed o t (c .none-no) .nine
 
-pub keeps : {o : List ℕ} {t R : ℕ} → CoverRuns o t R → KeepsOrder (turned o t)
+pub keeps : {o : List ℕ} {t R g : ℕ} → CoverRuns o t R g → KeepsOrder (turned o t)
 keeps {o} {t} c = keeps-decides o t .0 (passed o t (c .none-no) .ten)
 
-pub in-limits : {o : List ℕ} {t R : ℕ} → CoverRuns o t R → Resolution R
+pub in-limits : {o : List ℕ} {t R g : ℕ} → CoverRuns o t R g → Resolution R
 in-limits {R = R} c = let b = question-16 R .0 (c .resolution) in record { least = b .at-least; most = b .at-most }
 
-words-long : {o : List ℕ} {t R : ℕ} {out out' : List ℕ} {k : ℕ} → PutRuns o t R out out' k →
-    length (runsWords 0 (pieceRuns o t R)) ≡ 3 * k
-words-long {o} {t} {R} p = runs-length 0 (pieceRuns o t R) ∙ ap (λ (n : ℕ). 3 * n) (sym (p .count))
+pub gap-limit : {o : List ℕ} {t R g : ℕ} → CoverRuns o t R g → g ≤ mostGap
+gap-limit {g = g} c = question-21 g .0 (c .gap)
 
-pub refused-step : {o : List ℕ} {t R : ℕ} {out out' : List ℕ} {a : Covering} {n k : ℕ} → a ≡ NotCovered (refusal n k) →
-    NotCovered (refusal n k) ≡ coverAnswer o t R (length out) → out' ≡ out → CoverStep o t R out a out'
+words-long : {o : List ℕ} {t R g : ℕ} {out out' : List ℕ} {k : ℕ} → PutRuns o t R g out out' k →
+    length (runsWords 0 (pieceRuns o t R g)) ≡ 3 * k
+words-long {o} {t} {R} {g} p = runs-length 0 (pieceRuns o t R g) ∙ ap (λ (n : ℕ). 3 * n) (sym (p .count))
+
+pub refused-step : {o : List ℕ} {t R g : ℕ} {out out' : List ℕ} {a : Covering} {n k : ℕ} → a ≡ NotCovered (refusal n k) →
+    NotCovered (refusal n k) ≡ coverAnswer o t R g (length out) → out' ≡ out → CoverStep o t R g out a out'
 unfolding coverOutput
-refused-step {o} {t} {R} {out} e f g =
-    record { answer = e ∙ f; output = g ∙ ap (coverOutput o t R out) (sym e) }
+refused-step {o} {t} {R} {g} {out} e f same =
+    record { answer = e ∙ f; output = same ∙ ap (coverOutput o t R g out) (sym e) }
 
-pub step-11 : {o : List ℕ} {t R : ℕ} {out out' none none' : List ℕ} {a : Covering} {k : ℕ} → CoverRuns o t R →
-    PutRuns o t R none none' k → k ≡ 0 → a ≡ NotCovered (refusal 11 1) → out' ≡ out → CoverStep o t R out a out'
-step-11 {o} {t} {R} {out} c p z e g =
-    refused-step e (cover-11 o t R (length out) (c .resolution) (c .none-no) (sym (p .count) ∙ z)) g
-
-pub step-12 : {o : List ℕ} {t R : ℕ} {out out' none none' : List ℕ} {a : Covering} {k : ℕ} → CoverRuns o t R →
-    PutRuns o t R none none' k → (k ≡ 0 → ⊥) → length out / 3 < k → a ≡ NotCovered (refusal 12 1) → out' ≡ out →
-    CoverStep o t R out a out'
-step-12 {o} {t} {R} {out} c p z l e g =
+pub step-11 : {o : List ℕ} {t R g : ℕ} {out out' none none' : List ℕ} {a : Covering} {k : ℕ} → CoverRuns o t R g →
+    PutRuns o t R g none none' k → k ≡ 0 → a ≡ NotCovered (refusal 11 1) → out' ≡ out → CoverStep o t R g out a out'
+step-11 {o} {t} {R} {g} {out} c p z e same =
     refused-step e
-    (cover-12 o t R (length out) (c .resolution) (c .none-no) (omega (arith, p .count)) (omega (arith, p .count))) g
+    (cover-11 o t R g (length out) (c .resolution) (c .gap) (c .none-no)
+    (none-without o t R g (c .none-no) (in-limits c .least) (sym (p .count) ∙ z))) same
 
-pub step-runs : {o : List ℕ} {t R : ℕ} {out out' none none' : List ℕ} {k : ℕ} → CoverRuns o t R →
-    PutRuns o t R none none' k → (k ≡ 0 → ⊥) → (length out / 3 < k → ⊥) →
-    out' ≡ sets out 0 (runsWords 0 (pieceRuns o t R)) → CoverStep o t R out (Runs k) out'
+pub step-12 : {o : List ℕ} {t R g : ℕ} {out out' none none' : List ℕ} {a : Covering} {k : ℕ} → CoverRuns o t R g →
+    PutRuns o t R g none none' k → (k ≡ 0 → ⊥) → length out / 3 < k → a ≡ NotCovered (refusal 12 1) → out' ≡ out →
+    CoverStep o t R g out a out'
+step-12 {o} {t} {R} {g} {out} c p z l e same =
+    refused-step e
+    (cover-12 o t R g (length out) (c .resolution) (c .gap) (c .none-no)
+    (some-without o t R g (c .none-no) (in-limits c .least) .0 (omega (arith, p .count)))
+    (omega (arith, p .count))) same
+
+pub step-runs : {o : List ℕ} {t R g : ℕ} {out out' none none' : List ℕ} {k : ℕ} → CoverRuns o t R g →
+    PutRuns o t R g none none' k → (k ≡ 0 → ⊥) → (length out / 3 < k → ⊥) →
+    out' ≡ sets out 0 (runsWords 0 (pieceRuns o t R g)) → CoverStep o t R g out (Runs k) out'
 unfolding coverOutput
-step-runs {o} {t} {R} {out} {k = k} c p z l q =
+step-runs {o} {t} {R} {g} {out} {k = k} c p z l q =
     record {
-      answer = cover-runs o t R (length out) (c .resolution) (c .none-no) (p .count) (omega arith) (omega arith);
+      answer =
+          cover-runs o t R g (length out) (c .resolution) (c .gap) (c .none-no) (p .count)
+          (some-without o t R g (c .none-no) (in-limits c .least) .0 (omega (arith, p .count))) (omega arith);
       output =
-          q ∙ sets-eq (runsWords 0 (pieceRuns o t R)) out 0 (omega (arith, words-long p)) ∙
-          ap (λ (n : ℕ). runsWords 0 (pieceRuns o t R) ++ drop n out) (zero-add (length (runsWords 0 (pieceRuns o t R))) ∙ words-long p);
+          q ∙ sets-eq (runsWords 0 (pieceRuns o t R g)) out 0 (omega (arith, words-long p)) ∙
+          ap (λ (n : ℕ). runsWords 0 (pieceRuns o t R g) ++ drop n out) (zero-add (length (runsWords 0 (pieceRuns o t R g))) ∙ words-long p);
     }
 
 -- what was kept while the runs were counted
-pub counted : {o : List ℕ} {t R : ℕ} {out none kept : List ℕ} {k : ℕ} → CoverRuns o t R → PutRuns o t R none kept k →
-    length none ≡ 1536 → (length out / 3 < k → ⊥) → Counted o t R k kept out
-counted {o} {t} {R} {out} {none} {kept} {k} c p e l =
+pub counted : {o : List ℕ} {t R g : ℕ} {out none kept : List ℕ} {k : ℕ} → CoverRuns o t R g → PutRuns o t R g none kept k →
+    length none ≡ 1536 → (length out / 3 < k → ⊥) → Counted o t R g k kept out
+counted {o} {t} {R} {g} {out} {none} {kept} {k} c p e l =
     record {
       resolution = in-limits c;
+      gap = gap-limit c;
       count = p .count;
       fits = omega arith;
       kept-long = p .long ∙ e;
       kept-runs = λ h.
           ap (take (3 * k))
-          (p .written (omega arith) ∙ sets-eq (runsWords 0 (pieceRuns o t R)) none 0 (omega (arith, words-long p))) ∙
-          take-at (runsWords 0 (pieceRuns o t R)) _ (3 * k) (words-long p);
+          (p .written (omega arith) ∙ sets-eq (runsWords 0 (pieceRuns o t R g)) none 0 (omega (arith, words-long p))) ∙
+          take-at (runsWords 0 (pieceRuns o t R g)) _ (3 * k) (words-long p);
     }
 
 -- The number of runs fits 32 bits: a column has at most a run for each of its rows.
@@ -114,11 +125,11 @@ unfolding countRuns listFrom
 columns-few g h k zero few = omega arith
 columns-few g h k (suc n) few = omega (arith, few k, columns-few g h (suc k) n few)
 
-runs-few : (o : List ℕ) (t R : ℕ) → countRuns (pieceRuns o t R) ≤ columnsFor (extentX o t) R * extentY o t
+runs-few : (o : List ℕ) (t R g : ℕ) → countRuns (pieceRuns o t R g) ≤ columnsFor (extentX o t + g) R * (extentY o t + g)
 unfolding pieceRuns
-runs-few o t R =
-    columns-few _ (extentY o t) 0 (columnsFor (extentX o t) R)
-    (λ i. omega (arith, stretches-few (coveredb (turned o t) R i) (extentY o t) []))
+runs-few o t R g =
+    columns-few _ (extentY o t + g) 0 (columnsFor (extentX o t + g) R)
+    (λ i. omega (arith, stretches-few (coveredb (turned o t) R g i) (extentY o t + g) []))
 
 columns-most : (w R : ℕ) → 1 ≤ R → columnsFor w R ≤ w
 columns-most w R h =
@@ -126,9 +137,9 @@ columns-most w R h =
     let below : columnsFor w R < w + 1 = div-lt-iff-lt-mul h .1 (omega arith) in
     omega arith
 
-pub count-fits : {o : List ℕ} {t R : ℕ} {out out' : List ℕ} {k w h : ℕ} → 1 ≤ R → PutRuns o t R out out' k → w ≡ extentX o t →
-    h ≡ extentY o t → w ≤ 65535 → h ≤ 65535 → k < 2 ^ 32
-count-fits {o} {t} {R} {w = w} {h = h} Rpos p ew eh lw lh =
-    let across : columnsFor (extentX o t) R ≤ 65535 = omega (arith, columns-most (extentX o t) R Rpos) in
-    let up : extentY o t ≤ 65535 = omega arith in
-    omega (arith, p .count, runs-few o t R, mul-le-mul across up)
+pub count-fits : {o : List ℕ} {t R g : ℕ} {out out' : List ℕ} {k w h : ℕ} → 1 ≤ R → PutRuns o t R g out out' k → w ≡ extentX o t →
+    h ≡ extentY o t → w ≤ 16000 → g ≤ mostGap → h ≤ 65535 → k < 2 ^ 32
+count-fits {o} {t} {R} {g} {w = w} {h = h} Rpos p ew eh lw lg lh =
+    let across : columnsFor (extentX o t + g) R ≤ 16400 = omega (arith, columns-most (extentX o t + g) R Rpos) in
+    let up : extentY o t + g ≤ 65935 = omega arith in
+    omega (arith, p .count, runs-few o t R g, mul-le-mul across up)

@@ -24,7 +24,7 @@ pub record Taking (s l₀ h₀ l h : List ℕ) (Q c t k at m : ℕ) : Type 0 whe
   pub room : t + k ≤ Q
 
 pub taking-start : {s : List ℕ} {g : Shape} {Q c t at : ℕ} (l h : List ℕ) → Sized s g → c < g .columns → t ≤ Q →
-    at ≡ getD s (4 + c) 0 → Taking s l h l h Q c t 0 at 0
+    at ≡ getD s (5 + c) 0 → Taking s l h l h Q c t 0 at 0
 taking-start l h z n q e =
     record {
       on = column-start z n e;

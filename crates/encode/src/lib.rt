@@ -1,9 +1,11 @@
 // A table of runs, written into a strip: records 1, 2, 3 by column then low, and the free records after them in rising order.
 
 ghost use mathlib.Core.Path.{_≡_};
+ghost use mathlib.Core.List.{[], _∷_};
 ghost use Prim.Native.Nat.{_+_, _*_, _-_, _≤_, _<_};
 ghost use lib.ListN.{length, getD};
 ghost use lib.Seq.{sets};
+ghost use Rattle.defs.specs.Meaning.Limits.{leadingWords, recordWords};
 ghost use Rattle.defs.specs.Computing.Words.{recordsOf, columnWords, runWords, written};
 ghost use Rattle.tables.specs.Flat.{Flat, rowsFrom, tableOf};
 ghost use Rattle.encode.specs.Room.{Room};
@@ -20,10 +22,19 @@ fn record_of(i: u16, end: u16) -> u16
     0
 }
 
+// The leading words.
+fn put_leading(strip: &mut [u16], g: Figures, free: u16, gap: u16)
+    requires { ⌜ leadingWords ≤ length (now strip) ⌝ }
+    ensures { λ _. ⌜ now (strip .exit) ≡ sets (now (strip .entry)) 0 (g .width ∷ (g .resolution ∷ (g .columns ∷ (free ∷ (gap ∷ []))))) ⌝ }
+{
+    freerecords::put_four(strip, 0, g.width, g.resolution, g.columns, free);
+    strip[limits::GAP] = gap;
+}
+
 // The first record of each of n columns.
 fn put_firsts(strip: &mut [u16], first: &[u16], n: usize)
-    requires { ⌜ (n < length (now first)) × (4 + n ≤ length (now strip)) ⌝ }
-    ensures { λ _. ⌜ now (strip .exit) ≡ sets (now (strip .entry)) 4 (firstRecords (now (first .entry)) n) ⌝ }
+    requires { ⌜ (n < length (now first)) × (leadingWords + n ≤ length (now strip)) ⌝ }
+    ensures { λ _. ⌜ now (strip .exit) ≡ sets (now (strip .entry)) leadingWords (firstRecords (now (first .entry)) n) ⌝ }
 {
     let mut k = 0;
     while k < n {
@@ -64,8 +75,8 @@ fn put_column(
 // The records of the runs of n columns.
 fn put_records(strip: &mut [u16], first: &[u16], lows: &[u16], highs: &[u16], n: usize)
     requires { ⌜ Flat (now first) (now lows) (now highs) n (getD (now first) n 0) ⌝
-        ∗ ⌜ (n ≤ 4096) × (4 + n + 4 * getD (now first) n 0 ≤ length (now strip)) ⌝ }
-    ensures { λ _. ⌜ now (strip .exit) ≡ sets (now (strip .entry)) (4 + n)
+        ∗ ⌜ (n ≤ 4096) × (leadingWords + n + recordWords * getD (now first) n 0 ≤ length (now strip)) ⌝ }
+    ensures { λ _. ⌜ now (strip .exit) ≡ sets (now (strip .entry)) (leadingWords + n)
         (runWords 0 1 (tableOf (now (first .entry)) (now (lows .entry)) (now (highs .entry)) n)) ⌝ }
 {
     let start = limits::LEADING_WORDS + n;
@@ -79,16 +90,24 @@ fn put_records(strip: &mut [u16], first: &[u16], lows: &[u16], highs: &[u16], n:
     }
 }
 
-// The strip of these figures that holds the t runs of the table.
-pub fn encode(strip: &mut [u16], g: Figures, first: &[u16], lows: &[u16], highs: &[u16], t: usize)
+// The strip of these figures and this gap that holds the t runs of the table.
+pub fn encode(
+    strip: &mut [u16],
+    g: Figures,
+    gap: u16,
+    first: &[u16],
+    lows: &[u16],
+    highs: &[u16],
+    t: usize,
+)
     requires { ⌜ Flat (now first) (now lows) (now highs) (g .columns) t ⌝ ∗ ⌜ Room (g .columns) t (length (now strip)) ⌝ }
-    ensures { λ _. ⌜ now (strip .exit) ≡ written (g .width) (g .resolution) (g .columns) (recordsOf (g .columns) (length (now (strip .entry))))
+    ensures { λ _. ⌜ now (strip .exit) ≡ written (g .width) (g .resolution) (g .columns) gap (recordsOf (g .columns) (length (now (strip .entry))))
         (tableOf (now (first .entry)) (now (lows .entry)) (now (highs .entry)) (g .columns)) ⌝ }
 {
     let n = g.columns as usize;
     let q = limits::records_of(g.columns, strip.len());
     let free = record_of(t as u16, q as u16);
-    freerecords::put_four(strip, 0, g.width, g.resolution, g.columns, free);
+    put_leading(strip, g, free, gap);
     put_firsts(strip, first, n);
     put_records(strip, first, lows, highs, n);
     let at = limits::LEADING_WORDS + n + limits::RECORD_WORDS * t;

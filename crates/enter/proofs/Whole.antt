@@ -41,8 +41,8 @@ length-rows l h i n = length-listFrom _ i n
 
 -- The piece's runs in column i are a to e - 1: a row of theirs is a row of the piece's column.
 module _ {r : List ℕ} {g : Entry} {i a e : ℕ} (from : Split r g i a) (to : Split r g (i + 1) e) (x : ℕ) where
-  of-runs : (g .column ≤ i) × ((g .height ≤ x) × RunHolds r 0 (g .runs) (i - g .column) (x - g .height)) → OfRuns r (g .height) a e x
-  of-runs h =
+  of-runs : x < g .width → (g .column ≤ i) × ((g .height ≤ x) × RunHolds r 0 (g .runs) (i - g .column) (x - g .height)) → OfRuns r (g .width) (g .height) a e x
+  of-runs below h =
       let t = h .1 .1 in
       record {
         which = t .which;
@@ -51,9 +51,10 @@ module _ {r : List ℕ} {g : Entry} {i a e : ℕ} (from : Split r g i a) (to : S
             ⊎-elim (λ l. l) (λ l. absurd (omega (arith, to .others (t .which) l (t .to), t .column))) (lt-or-le (t .which) e);
         low = omega (arith, t .low);
         high = omega (arith, t .high);
+        top = below;
       }
 
-  runs-of : OfRuns r (g .height) a e x → (g .column ≤ i) × ((g .height ≤ x) × RunHolds r 0 (g .runs) (i - g .column) (x - g .height))
+  runs-of : OfRuns r (g .width) (g .height) a e x → (g .column ≤ i) × ((g .height ≤ x) × RunHolds r 0 (g .runs) (i - g .column) (x - g .height))
   runs-of o =
       let within : o .which < g .runs = omega (arith, o .to, to .among) in
       let low = from .others (o .which) (o .from) within in
@@ -75,11 +76,11 @@ module _ {r : List ℕ} {g : Entry} {i a e : ℕ} (from : Split r g i a) (to : S
 module _ {f l h r f' l' h' : List ℕ} {g : Entry} {k : ℕ} {b : Built} (old : Old f l h g) (fits : Fits r g)
     (built : Building f l h r f' l' h' g k b) (most : k ≤ g .columns) where
   -- a row of a column is below the table's width
-  row-below : {i : ℕ} → i < k → {a e : ℕ} → Split r g (i + 1) e → (x : ℕ) → Occupied f l h i x ⊎ OfRuns r (g .height) a e x →
+  row-below : {i : ℕ} → i < k → {a e : ℕ} → Split r g (i + 1) e → (x : ℕ) → Occupied f l h i x ⊎ OfRuns r (g .width) (g .height) a e x →
       x < g .width
   row-below {i} u to x =
       ⊎-elim (λ o. old .laid .within i x (omega arith) o)
-      (λ o. omega (arith, o .high, fits .piece .tall (o .which) (omega (arith, o .to, to .among)), fits .top))
+      (λ o. o .top)
 
   laid-so-far : Laid f' l' h' (g .width) k (b .runs)
   laid-so-far =
@@ -96,12 +97,12 @@ module _ {f l h r f' l' h' : List ℕ} {g : Entry} {k : ℕ} {b : Built} (old : 
         inRows (getD (tableOf f l h (g .columns)) i []) x ||
         (leb (g .column) i && (leb (g .height) x && inRows (getD piece (i - g .column) []) (x - g .height)))
 
-    test-decides : {i : ℕ} → i < k → {a e : ℕ} → Split r g i a → Split r g (i + 1) e → (x : ℕ) →
-        Decides (test i x) (Occupied f l h i x ⊎ OfRuns r (g .height) a e x)
+    test-decides : {i : ℕ} → i < k → {a e : ℕ} → Split r g i a → Split r g (i + 1) e → (x : ℕ) → x < g .width →
+        Decides (test i x) (Occupied f l h i x ⊎ OfRuns r (g .width) (g .height) a e x)
     unfolding test
-    test-decides {i} u from to x =
+    test-decides {i} u from to x below =
         or-decides (Iff·symm (in-flat (old .laid .flat) (omega arith) x))
-        (decides-by (of-runs from to x) (runs-of from to x)
+        (decides-by (of-runs from to x below) (runs-of from to x)
         (and-decides (leb-decides _ _) (and-decides (leb-decides _ _) (piece-rows stands apart (i - g .column) (x - g .height)))))
 
     column-entered : (i : ℕ) → i < k → getD (tableOf f' l' h' k) i [] ≡ getD (after f l h g piece turn) i []
@@ -112,8 +113,8 @@ module _ {f l h r f' l' h' : List ℕ} {g : Entry} {k : ℕ} {b : Built} (old : 
         let decides = test-decides u (c .from) (c .to) in
         stretches-only (test i) (g .width) (getD (tableOf f' l' h' k) i []) (apart-flat (built .flat) u (c .runs))
         (λ x. (
-          λ e. let o = c .only x (rows x .1 e) in (row-below u (c .to) x o, decides x .1 o),
-          λ e. rows x .0 (⊎-elim (c .held x) (c .added x) (decides x .0 (e .1))),
+          λ e. let o = c .only x (rows x .1 e) in let below = row-below u (c .to) x o in (below, decides x below .1 o),
+          λ e. rows x .0 (⊎-elim (c .held x) (c .added x) (decides x (e .0) .0 (e .1))),
         )) ∙
         sym
         (entered-at (g .width) piece (position turn (g .column) (g .height)) (tableOf f l h (g .columns)) i

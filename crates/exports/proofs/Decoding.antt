@@ -6,7 +6,8 @@ use mathlib.Core.List.{List}
 use Prim.Native.Nat.{ℕ, _≤_}
 use native.Mathlib.Omega.{arith}
 use lib.ListN.{length}
-use Rattle.defs.specs.Meaning.Strip.{widthOf, resolutionOf, columnsOf}
+use Rattle.defs.specs.Meaning.Limits.{leadingWords}
+use Rattle.defs.specs.Meaning.Strip.{widthOf, resolutionOf, columnsOf, gapOf}
 use Rattle.defs.specs.Computing.Cells.{countRuns}
 use Rattle.defs.specs.Computing.Words.{wellFormedb, recordsOf, written}
 use Rattle.laws.proofs.Questions.{length-decides}
@@ -18,7 +19,7 @@ use Rattle.encode.specs.Room.{Room}
 use Rattle.exports.specs.Strips.{rewriteAnswer, rewritten, decodedAnswer}
 
 module _ {s f l h : List ℕ} {t : ℕ} (held : Holds-runs s f l h t) where
-  pub leading : 4 ≤ length s
+  pub leading : leadingWords ≤ length s
   leading = omega (arith, formed s (held .well-formed) .long .words-are)
 
   pub few : t ≤ 16000
@@ -38,11 +39,15 @@ module _ {s f l h : List ℕ} {t : ℕ} (held : Holds-runs s f l h t) where
       }
 
   pub rewritten-is : {s' : List ℕ} →
-      s' ≡ written (widthOf s) (resolutionOf s) (columnsOf s) (recordsOf (columnsOf s) (length s)) (tableOf f l h (columnsOf s)) →
+      s' ≡ written (widthOf s) (resolutionOf s) (columnsOf s) (gapOf s) (recordsOf (columnsOf s) (length s)) (tableOf f l h (columnsOf s)) →
       (0 ≡ rewriteAnswer s) × (s' ≡ rewritten s)
   unfolding rewriteAnswer rewritten
-  rewritten-is e =
-      (rw (held .well-formed) refl, rw (held .well-formed) (e ∙ ap (written (widthOf s) (resolutionOf s) (columnsOf s) (recordsOf (columnsOf s) (length s))) (held .table)))
+  rewritten-is e = (
+    rw (held .well-formed) refl,
+    rw (held .well-formed)
+        (e ∙
+        ap (written (widthOf s) (resolutionOf s) (columnsOf s) (gapOf s) (recordsOf (columnsOf s) (length s))) (held .table)),
+  )
 
 module _ (s : List ℕ) (ill : wellFormedb s ≡ false) where
   pub none-decoded : 4294967295 ≡ decodedAnswer s

@@ -43,7 +43,8 @@ pub extern "C" fn vikelodu_rewrite(strip: &mut [u16]) -> u64
                 resolution: strip[limits::RESOLUTION],
                 columns: strip[limits::COLUMNS],
             };
-            encode::encode(strip, g, &first, &lows, &highs, t);
+            let gap = strip[limits::GAP];
+            encode::encode(strip, g, gap, &first, &lows, &highs, t);
             0
         }
         Decoded::Ill => 5,

@@ -6,7 +6,7 @@ use mathlib.Core.List.{List}
 use Prim.Native.Nat.{ℕ, zero, suc, _+_, _≤_, _<_}
 use native.Mathlib.Omega.{arith}
 use borrow.Author.Count.{below-more}
-use Rattle.defs.specs.Meaning.Strip.{columnsOf, firstOf, columnOf, nextOf, Chained, here, further, Ends, zero-ends, goes-on}
+use Rattle.defs.specs.Meaning.Strip.{columnsOf, firstOf, columnOf, nextOf, Chained, here, further, Ends, zero-ends, goes-on, gapOf}
 use Rattle.defs.specs.Meaning.Strip.{InColumn, IsFree, InOneChain, WellFormed}
 use Rattle.defs.specs.Meaning.Question.{Question5}
 use Rattle.chains.specs.Form.{recAt, Within, ChainOf, Counted, Place, Formed}
@@ -125,6 +125,7 @@ form-is s = (
     record {
       long = f .long;
       limits = f .limits;
+      gap = f .gap;
       free = free-is f;
       columns = column-is f;
       ends =
@@ -138,6 +139,7 @@ form-is s = (
       record {
         Q = q .0;
         limits = q .1 .limits;
+        gap = q .1 .gap;
         long = q .1 .long;
         chains = counted (q .1);
         each = λ r a b. let o = q .1 .one-chain r a b in placed (o .chain) (counted (q .1) (o .chain) (o .is-one)) (o .holds);

@@ -10,11 +10,11 @@ use borrow.Author.Count.{below-more}
 use borrow.Author.Tests.{eqb-true, eq-eqb}
 use lib.Dec.{eqb}
 use lib.ListN.{length}
-use Rattle.defs.specs.Meaning.Strip.{widthOf, resolutionOf, columnsOf}
+use Rattle.defs.specs.Meaning.Strip.{widthOf, resolutionOf, columnsOf, gapOf}
 use Rattle.defs.specs.Meaning.Question.{Question4}
-use Rattle.defs.specs.Computing.Words.{limitsNo, lengthb, recordsOf, wellFormedb}
+use Rattle.defs.specs.Computing.Words.{figuresNo, lengthb, recordsOf, wellFormedb}
 use Rattle.laws.proofs.Tests.{Decides}
-use Rattle.laws.proofs.Questions.{limits-none, question-4, length-decides}
+use Rattle.laws.proofs.Questions.{figures-none, question-4, length-decides}
 use Rattle.laws.proofs.Complete.{question-5}
 use Rattle.striprecords.specs.declared.Shape.{Shape}
 use Rattle.chains.specs.Form.{ChainOf, Counted, Formed}
@@ -38,21 +38,21 @@ not-formed {s} f = same-test (formed-decides s) (λ e. absurd (false≢true e), 
 
 -- the tests of length and limits
 module _ (s : List ℕ) where
-  pub short : length s < 4 → wellFormedb s ≡ false
+  pub short : length s < 5 → wellFormedb s ≡ false
   short l = not-formed (λ f. omega (arith, f .long .words-are))
 
-  pub past-limits : limitsNo (widthOf s) (resolutionOf s) (columnsOf s) ≢ 0 → wellFormedb s ≡ false
-  past-limits e = not-formed (λ f. e (limits-none _ _ _ .1 (f .limits)))
+  pub past-limits : figuresNo (widthOf s) (resolutionOf s) (columnsOf s) (gapOf s) ≢ 0 → wellFormedb s ≡ false
+  past-limits e = not-formed (λ f. e (figures-none _ _ _ _ .1 (f .limits, f .gap)))
 
   pub wrong-length : lengthb (columnsOf s) (length s) ≡ false → wellFormedb s ≡ false
   unfolding Question4
   wrong-length e = not-formed (λ f. false≢true (sym e ∙ question-4 _ _ .1 (f .Q, f .long)))
 
-  pub sized : {g : Shape} → limitsNo (widthOf s) (resolutionOf s) (columnsOf s) ≡ 0 →
+  pub sized : {g : Shape} → figuresNo (widthOf s) (resolutionOf s) (columnsOf s) (gapOf s) ≡ 0 →
       lengthb (columnsOf s) (length s) ≡ true → g .width ≡ widthOf s → g .columns ≡ columnsOf s →
       g .records ≡ recordsOf (columnsOf s) (length s) → Sized s g
   sized a b w n e =
-      record { width = w; columns = n; limits = limits-none _ _ _ .0 a; long = rw e (length-decides _ _ .0 b) }
+      record { width = w; columns = n; limits = figures-none _ _ _ _ .0 a .0; gap = figures-none _ _ _ _ .0 a .1; long = rw e (length-decides _ _ .0 b) }
 
 -- Q is the only one that the length fits
 same-records : {s : List ℕ} {g : Shape} → Sized s g → (f : Formed s) → f .Q ≡ g .records
@@ -111,6 +111,7 @@ module _ {s : List ℕ} {g : Shape} {c total : ℕ} (o : On s g c total) where
           record {
             Q = g .records;
             limits = o .sized .limits;
+            gap = o .sized .gap;
             long = o .sized .long;
             chains =
                 λ b m.

@@ -23,7 +23,7 @@ pub fn measure(s: &[u16]) -> Size
         return Size::Ill;
     }
     let n = s[limits::COLUMNS];
-    if limits::limits_no(s[limits::WIDTH], s[limits::RESOLUTION], n) != 0 {
+    if limits::figures_no(s[limits::WIDTH], s[limits::RESOLUTION], n, s[limits::GAP]) != 0 {
         return Size::Ill;
     }
     if !limits::length_fits(n, l) {

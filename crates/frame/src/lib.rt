@@ -19,6 +19,8 @@ pub struct Scene {
     pub used: u16,
     pub placed: u16,
     pub refused: u16,
+    // between pieces
+    pub gap: u16,
     // hundredths of a unit
     pub font: u32,
 }
@@ -51,7 +53,7 @@ fn font_of(width: u16, long: u32) -> u32 {
     numbers::greater(3 * width as u64, long as u64) as u32
 }
 
-pub fn scene_of(f: Figures, t: Totals, count: u16) -> Scene {
+pub fn scene_of(f: Figures, t: Totals, count: u16, gap: u16) -> Scene {
     let shown = shown_of(f, t.used);
     Scene {
         width: f.width,
@@ -61,6 +63,7 @@ pub fn scene_of(f: Figures, t: Totals, count: u16) -> Scene {
         used: t.used,
         placed: t.placed,
         refused: marks::difference(count, t.placed),
+        gap: gap,
         font: font_of(f.width, length_of(shown, f.resolution)),
     }
 }
@@ -87,12 +90,20 @@ fn in_row(s: Scene) -> u16
     clamped(span(s) / numbers::greater(9 * s.font as u64, 1), 2, 11) as u16
 }
 
-// The picture's height below the strip, in hundredths: the caption, and 1.4 em for each row of refused pieces.
+// The row of the gap, if there is one.
+fn gap_row(s: Scene) -> u64
+    ensures { λ r. ⌜ r ≤ 4294967295 ⌝ }
+{
+    if s.gap == 0 { 0 } else { s.font as u64 }
+}
+
+// The picture's height below the strip, in hundredths: the caption, and 1.4 em for a gap and for each row of refused pieces.
 fn below(s: Scene) -> u64
     ensures { λ r. ⌜ r ≤ 1000000000000000 ⌝ }
 {
     let n = in_row(s);
-    let rows = marks::times(s.font, s.refused / n) + marks::times(s.font, one(s.refused % n));
+    let few = marks::times(s.font, one(s.refused % n)) + gap_row(s);
+    let rows = marks::times(s.font, s.refused / n) + few;
     7 * s.font as u64 + rows + rows / 5 * 2
 }
 
@@ -110,9 +121,20 @@ fn high(s: Scene) -> u64
     100 * s.width as u64
 }
 
-// How thick outlines are: 0.09 em, at most a 40th of the strip's width, and never 0.
-fn thickness(s: Scene) -> u64 {
+// How thick outlines are where nothing is between them: 0.09 em, at most a 40th of the strip's width, and never 0.
+fn thickest(s: Scene) -> u64
+    ensures { λ r. ⌜ 1 ≤ r ⌝ }
+{
     marks::smaller(9 * s.font as u64, 250 * s.width as u64) / 100 + 1
+}
+
+// How thick outlines are: where there is a gap, half of it, so that they leave the other half free, and a third as thick at least.
+fn thickness(s: Scene) -> u64 {
+    let most = thickest(s);
+    if s.gap == 0 {
+        return most;
+    }
+    clamped(50 * s.gap as u64, most / 3, most)
 }
 
 // The numbers of the head. Around the strip there are 2.5 em beside it and 3 em above it.
@@ -235,6 +257,19 @@ pub fn put_ground(out: &mut [u8], s: Scene) -> usize {
     to
 }
 
+// The start of what shades the gap around each piece: a line of twice its width, within the strip, for outlines that follow.
+pub fn put_shade(out: &mut [u8], at: usize, s: Scene) -> usize {
+    let h = high(s);
+    svg::fill(
+        out,
+        at,
+        b"<clipPath id='strip'><rect y='-%l' width='%l' height='%l'/></clipPath>
+<path clip-path='url(#strip)' fill='none' stroke='#f2cf9c' stroke-linejoin='round' stroke-width='%l' d='",
+        &[h, reach(s.shown, s.resolution), h, 200 * s.gap as u64],
+        s.font,
+    )
+}
+
 // The numbers of the text around the strip.
 fn around_of(s: Scene) -> [u64; 15] {
     let r = s.resolution;
@@ -277,12 +312,12 @@ fn put_text(out: &mut [u8], at: usize, s: Scene) -> usize {
     )
 }
 
-// The numbers of piece i at its place in its row.
-fn refusal_of(place: u16, row: u16, i: u16, number: u16) -> [u64; 5] {
+// The numbers of piece i at its place in its row. A gap has the first row.
+fn refusal_of(place: u16, row: u16, gap: u16, i: u16, number: u16) -> [u64; 5] {
     [
         number as u64,
         9 * place as u64,
-        780 + 140 * row as u64,
+        780 + 140 * row as u64 + 140 * one(gap) as u64,
         i as u64 + 1,
         number as u64,
     ]
@@ -307,7 +342,7 @@ fn put_refusals(out: &mut [u8], at: usize, s: Scene, count: u16, entries: &[u16]
     let mut to = at;
     while i < count {
         let number = marks::word(entries, numbers::ENTRY_WORDS * i as usize);
-        to = put_refusal(out, to, &refusal_of(k % n, k / n, i, number));
+        to = put_refusal(out, to, &refusal_of(k % n, k / n, s.gap, i, number));
         k += one(number);
         i += 1;
     }
@@ -332,6 +367,18 @@ fn put_dashed(out: &mut [u8], at: usize, dashed: bool) -> usize {
     at
 }
 
+// What is shaded, if there is a gap.
+fn put_gap(out: &mut [u8], at: usize, gap: u16) -> usize {
+    let g = gap as u64;
+    svg::fill(
+        out,
+        at,
+        b"%?<text y='7.80em'>shaded: gap of %m mm</text>\n",
+        &[g, g],
+        0,
+    )
+}
+
 // What stands around the strip, and the end of the picture.
 pub fn put_around(
     out: &mut [u8],
@@ -343,8 +390,9 @@ pub fn put_around(
 ) -> usize {
     let a = put_text(out, at, s);
     let b = put_dashed(out, a, dashed);
-    let c = put_refusals(out, b, s, count, entries);
-    put_end(out, c)
+    let c = put_gap(out, b, s.gap);
+    let d = put_refusals(out, c, s, count, entries);
+    put_end(out, d)
 }
 
 // The picture of a job that is refused: the sentence that program `lay` prints.

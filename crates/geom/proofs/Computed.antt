@@ -1,24 +1,25 @@
--- The computed test of a unit cell says that the cell is covered.
+-- The computed test of a unit cell says that it holds a point inside, and that of a cell with a gap says that it is covered.
 -- Assumes nothing.
 use mathlib.Core.Path.{_≡_, refl, ap, ap₂, sym, subst, _∙_}
 use mathlib.Core.Bool.{Bool, true, false, not, _&&_, _||_}
 use mathlib.Core.List.{List}
-use mathlib.Core.Logic.{_⊎_, inl, inr, ⊎-elim, _↔_}
+use mathlib.Core.Logic.{_⊎_, inl, inr, ⊎-elim, _↔_, Iff·symm, Iff·trans}
 use Prim.Native.Nat.{ℕ, _+_, _*_, _-_, _%_, _≤_, _<_, min, max}
 use native.Mathlib.Omega.{arith}
 use native.Mathlib.Nat.{mul-lt-mul-of-pos-right, lt-of-mul-lt-mul-right}
-use lib.Dec.{ltb, eqb}
-use borrow.Author.Tests.{lt-ltb, ltb-true, eqb-true, eq-eqb}
+use lib.Dec.{ltb, leb, eqb}
+use borrow.Author.Tests.{lt-ltb, le-leb, leb-true, ltb-true, eqb-true, eq-eqb}
 use Rattle.defs.specs.Meaning.Outline.{edgeAt, sides, spans, height, countTo, Ordered, KeepsOrder}
-use Rattle.defs.specs.Meaning.Cell.{Covered}
+use Rattle.defs.specs.Meaning.Cell.{Covered, CoveredGap}
 use Rattle.defs.specs.Computing.Test.{anyTo, allTo}
-use Rattle.defs.specs.Computing.Cells.{higher, notHigher, reaches, rises, openAbove, opens, coveredb}
+use Rattle.defs.specs.Computing.Cells.{higher, notHigher, reaches, rises, openAbove, opens, unitsb, raisedb, coveredb}
 use Rattle.geom.proofs.Strip.{lt-or-le}
 use Rattle.geom.proofs.Parity.{count-same}
-use Rattle.laws.proofs.Tests.{and-left, and-right, allTo-at, allTo-of, anyTo-at, anyTo-of}
+use Rattle.laws.proofs.Tests.{Decides, and-left, and-right, and-both, allTo-at, allTo-of, anyTo-at, anyTo-of}
 use Rattle.geom.proofs.Column.{Top, topmost, count-split, Met, mid, rank, not-lower, mid-trans, mid-irr}
-use Rattle.geom.proofs.Cells.{narrow, widen}
 use Rattle.geom.proofs.Cover.{S, H0, H1, W, positive, in-order, even, cover, meet}
+use Rattle.geom.specs.Units.{InUnits, Raised}
+use Rattle.geom.proofs.Windows.{gap-rows}
 
 all4 : {a b c d : Bool} → a ≡ true → b ≡ true → c ≡ true → d ≡ true → (a && (b && (c && d))) ≡ true
 all4 ea eb ec ed = ap₂ _&&_ ea (ap₂ _&&_ eb (ap₂ _&&_ ec ed))
@@ -147,23 +148,48 @@ module _ (o : List ℕ) (k : ℕ) (r : Ordered o k) where
         (met-opens j t),
   )
 
--- Cell (i, j) at resolution R: the computed test says that the cell holds a point inside.
-pub cell-covered : (o : List ℕ) → KeepsOrder o → 0 < sides o → (R i j : ℕ) → (coveredb o R i j ≡ true) ↔ Covered o R i j
-unfolding coveredb KeepsOrder
-cell-covered o keeps some R i j = (
+-- the unit columns from a to b
+pub units-decide : (v : List ℕ) → KeepsOrder v → 0 < sides v → (a b j : ℕ) → Decides (unitsb v a (b - a) j) (InUnits v a b j)
+unfolding unitsb KeepsOrder
+units-decide v keeps some a b j = (
   λ e.
-      let s = anyTo-at (λ k. anyTo (opens o (i * R + k) j) (sides o)) R e in
-      widen
-      (record {
-        k = i * R + s .i;
+      let s = anyTo-at (λ k. anyTo (opens v (a + k) j) (sides v)) (b - a) e in
+      record {
+        k = a + s .i;
         from = omega arith;
         to = omega (arith, s .below);
-        there = unit-covered o (i * R + s .i) (keeps (i * R + s .i)) some j .0 (s .holds);
-      }),
-  λ c.
-      let u = narrow c in
-      let e : u .k ≡ i * R + (u .k - i * R) = omega (arith, u .from) in
-      anyTo-of (λ k. anyTo (opens o (i * R + k) j) (sides o)) R (u .k - i * R) (omega (arith, u .from, u .to))
-      (subst (λ (n : ℕ). anyTo (opens o n j) (sides o) ≡ true) e
-      (unit-covered o (u .k) (keeps (u .k)) some j .1 (u .there))),
+        there = unit-covered v (a + s .i) (keeps (a + s .i)) some j .0 (s .holds);
+      },
+  λ u.
+      let e : u .k ≡ a + (u .k - a) = omega (arith, u .from) in
+      anyTo-of (λ k. anyTo (opens v (a + k) j) (sides v)) (b - a) (u .k - a) (omega (arith, u .from, u .to))
+      (subst (λ (n : ℕ). anyTo (opens v n j) (sides v) ≡ true) e (unit-covered v (u .k) (keeps (u .k)) some j .1 (u .there))),
 )
+
+pub raised-decides : (g : ℕ) (f : ℕ → Bool) (P : ℕ → Type 0) → ((j : ℕ) → Decides (f j) (P j)) → (j : ℕ) →
+    Decides (raisedb g f j) (Raised g P j)
+unfolding raisedb
+raised-decides g f P d j = (
+  λ e.
+      let s = anyTo-at (λ b. leb b j && f (j - b)) (g + 1) e in
+      let l = leb-true (s .i) j (and-left (leb (s .i) j) _ (s .holds)) in
+      record {
+        row = j - s .i;
+        holds = d (j - s .i) .0 (and-right (leb (s .i) j) _ (s .holds));
+        below = omega arith;
+        rows = omega (arith, s .below);
+      },
+  λ r.
+      let e : r .row ≡ j - (j - r .row) = omega (arith, r .below) in
+      anyTo-of (λ b. leb b j && f (j - b)) (g + 1) (j - r .row) (omega (arith, r .rows))
+      (and-both (le-leb (j - r .row) j (omega arith)) (subst (λ (n : ℕ). f n ≡ true) e (d (r .row) .1 (r .holds)))),
+)
+
+-- cell (i, j) at resolution R with gap g
+pub gap-covered : (v : List ℕ) → KeepsOrder v → 0 < sides v → (R g i j : ℕ) → 1 ≤ R →
+    Decides (coveredb v R g i j) (CoveredGap v R g i j)
+unfolding coveredb
+gap-covered v keeps some R g i j Rpos =
+    Iff·trans
+    (raised-decides g _ (InUnits v (i * R - g) ((i + 1) * R)) (units-decide v keeps some (i * R - g) ((i + 1) * R)) j)
+    (Iff·symm (gap-rows v R g i j Rpos))

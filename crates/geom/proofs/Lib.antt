@@ -6,12 +6,15 @@ pub mod Scale
 pub mod Cover
 pub mod Cells
 pub mod Rows
+pub mod Windows
 pub mod Computed
 pub mod Stretches
 pub mod Extent
 pub mod PieceCells
 pub mod Shift
 pub mod MovedCells
+pub mod MovedGap
+pub mod Points
 pub mod RunLists
 pub mod Counting
 pub mod RunWords

@@ -23,15 +23,15 @@ unfolding ordersb allTo allowedb
 orders-one o =
     by-turn (λ t. ordersb o (2 ^ t) ≡ keepsOrderb (turned o t) (extentX o t)) (and-true _) (and-true _) (and-true _) (and-true _)
 
-pub most-one : (o : List ℕ) (R t : ℕ) → t ≤ 3 → mostRuns o (2 ^ t) R 4 ≡ countRuns (pieceRuns o t R)
+pub most-one : (o : List ℕ) (R g t : ℕ) → t ≤ 3 → mostRuns o (2 ^ t) R g 4 ≡ countRuns (pieceRuns o t R g)
 unfolding mostRuns allowedb
-most-one o R =
-    by-turn (λ t. mostRuns o (2 ^ t) R 4 ≡ countRuns (pieceRuns o t R)) (omega arith) (omega arith) (omega arith) (omega arith)
+most-one o R g =
+    by-turn (λ t. mostRuns o (2 ^ t) R g 4 ≡ countRuns (pieceRuns o t R g)) (omega arith) (omega arith) (omega arith) (omega arith)
 
-pub cell-one : (o : List ℕ) (R t : ℕ) → t ≤ 3 → q11b o (2 ^ t) R ≡ ltb 0 (countRuns (pieceRuns o t R))
+pub cell-one : (o : List ℕ) (R t : ℕ) → t ≤ 3 → q11b o (2 ^ t) R ≡ ltb 0 (countRuns (pieceRuns o t R 0))
 unfolding q11b
-cell-one o R t h = ap (ltb 0) (most-one o R t h)
+cell-one o R t h = ap (ltb 0) (most-one o R 0 t h)
 
-pub room-one : (o : List ℕ) (R words t : ℕ) → t ≤ 3 → q12b o (2 ^ t) R words ≡ leb (3 * countRuns (pieceRuns o t R)) words
+pub room-one : (o : List ℕ) (R g words t : ℕ) → t ≤ 3 → q12b o (2 ^ t) R g words ≡ leb (3 * countRuns (pieceRuns o t R g)) words
 unfolding q12b
-room-one o R words t h = ap (λ (n : ℕ). leb (3 * n) words) (most-one o R t h)
+room-one o R g words t h = ap (λ (n : ℕ). leb (3 * n) words) (most-one o R g t h)

@@ -33,10 +33,10 @@ pub record RunsLeft (y z p left n : ℕ) : Type 0 where
   pub stayed : z ≤ y → n + 1 ≡ left
 
 -- no height is free, and run k found none
-pub record Stopped (f l h r : List ℕ) (W p t c k : ℕ) : Type 0 where
-  pub none : NoHeight f l h r W p t c
+pub record Stopped (f l h r : List ℕ) (N W p t c k : ℕ) : Type 0 where
+  pub none : NoHeight f l h r N W p t c
   pub among : k < p
 
-abbrev pub Rounded : (f l h r : List ℕ) (W p t c : ℕ) → Round → Type 0
-Rounded f l h r W p t c (Up y) = Least f l h r W p t c y
-Rounded f l h r W p t c (Full k) = Stopped f l h r W p t c k
+abbrev pub Rounded : (f l h r : List ℕ) (N W p t c : ℕ) → Round → Type 0
+Rounded f l h r N W p t c (Up y) = Least f l h r N W p t c y
+Rounded f l h r N W p t c (Full k) = Stopped f l h r N W p t c k

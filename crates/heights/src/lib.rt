@@ -16,7 +16,7 @@ pub enum Round {
 
 // The least height from y on at which the rows lo to hi - 1 are free in column c.
 fn settle(first: &[u16], lows: &[u16], highs: &[u16], c: usize, lo: u16, hi: u16, y: u16) -> u16
-    requires { ⌜ Column (now first) (now lows) (now highs) c ⌝ ∗ ⌜ (lo < hi) × (hi ≤ 16000) × (y ≤ 16000) ⌝
+    requires { ⌜ Column (now first) (now lows) (now highs) c ⌝ ∗ ⌜ (lo < hi) × (hi ≤ 16400) × (y ≤ 16000) ⌝
         ∗ ⌜ ((x : ℕ) → Occupied (now first) (now lows) (now highs) c x → x < 16000) ⌝ }
     ensures { λ z. ⌜ Settled (now (first .entry)) (now (lows .entry)) (now (highs .entry)) c lo hi y z ⌝ }
 {
@@ -50,7 +50,14 @@ fn runs_left(y: u16, z: u16, p: usize, left: usize) -> usize
     if y < z { p - 1 } else { left - 1 }
 }
 
-// The least free height in column c, from run `start` on.
+// The run to begin with, of p runs: `start`, if it is one of them.
+fn begin_with(start: usize, p: usize) -> usize
+    ensures { λ k. ⌜ k ≤ p - 1 ⌝ }
+{
+    if start < p { start } else { 0 }
+}
+
+// The least free height in column c, from run `start` on; what goes past the last column or the top does not count.
 pub fn round_column(
     first: &[u16],
     lows: &[u16],
@@ -62,12 +69,13 @@ pub fn round_column(
 ) -> Round
     requires { ⌜ Frame (now first) (now lows) (now highs) (now runs) (s .columns) (s .width) (s .runs) (s .wide) (s .tall) ⌝
         ∗ ⌜ (c + s .wide ≤ s .columns) × (s .tall ≤ s .width) × (s .width ≤ 16000) × (start ≤ s .runs - 1) ⌝ }
-    ensures { λ a. ⌜ Rounded (now (first .entry)) (now (lows .entry)) (now (highs .entry)) (now (runs .entry)) (s .width) (s .runs) (s .tall) c a ⌝ }
+    ensures { λ a. ⌜ Rounded (now (first .entry)) (now (lows .entry)) (now (highs .entry)) (now (runs .entry)) (s .columns) (s .width) (s .runs) (s .tall) c a ⌝ }
 {
     let top = s.width - s.tall;
-    let p = s.runs;
+    let n = s.columns;
+    let p = walk::runs_before(runs, s.runs, n - c);
     let mut y: u16 = 0;
-    let mut k = start;
+    let mut k = begin_with(start, p);
     let mut left = p;
     while 0 < left {
         let col = c + runs[3 * k] as usize;

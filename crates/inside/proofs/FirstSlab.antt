@@ -11,7 +11,7 @@ use borrow.Author.Tests.{lt-ltb}
 use Rattle.defs.specs.Meaning.Outline.{sides, KeepsOrder}
 use Rattle.defs.specs.Meaning.Turn.{turned}
 use Rattle.geom.proofs.Extent.{sides-turned}
-use Rattle.geom.proofs.Checks.{cell-of-turn}
+use Rattle.geom.proofs.Checks.{some-run}
 use Rattle.outline.specs.Vertex.{Lent}
 use Rattle.slabs.specs.Slab.{Neat, InSlab}
 use Rattle.slabs.proofs.Cut.{slab-covered}
@@ -53,7 +53,7 @@ module _ (o : List ℕ) (t : ℕ) {a b m c : ℕ} {h0 h1 w : List ℕ} (lent : L
       let u = slab-covered v keeps some-sides a (b - a) n y (subst (λ (x : ℕ). InSlab v a x y) (sym e) z) in
       record {
         every = λ R Rpos.
-            (λ q. cell-of-turn o t R keeps (some-side lent) Rpos .1 (u .k / R, y, unit-cell R (u .k) y Rpos (u .there)), λ q. refl);
+            (λ q. some-run o t R keeps (some-side lent) Rpos 0 .1 (u .k / R, y, unit-cell R (u .k) y Rpos (u .there)), λ q. refl);
       }
 
   pub apart-cell : LowestApart h0 h1 w m → HasCell o t true

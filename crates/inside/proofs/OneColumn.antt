@@ -16,7 +16,7 @@ use Rattle.defs.specs.Meaning.Cell.{Covered}
 use Rattle.defs.specs.Computing.Cells.{pieceRuns, countRuns}
 use Rattle.geom.proofs.Cells.{narrow, widen}
 use Rattle.geom.proofs.PieceCells.{within}
-use Rattle.geom.proofs.Checks.{cell-of-turn}
+use Rattle.geom.proofs.Checks.{some-run}
 use Rattle.outline.specs.Vertex.{Lent}
 use Rattle.column.specs.Rows.{ColumnOf, Working}
 use Rattle.inside.specs.Cell.{HasCell}
@@ -44,14 +44,14 @@ unit-cell R k j Rpos c =
 module _ (o : List ℕ) (t : ℕ) {w n a b m c : ℕ} {h0 h1 s l h : List ℕ} (lent : Lent o) (keeps : KeepsOrder (turned o t)) (e : w ≡ extentX o t)
     (k : ColumnOf (turned o t) 0 w h0 h1 s l h n a b m c) where
   -- the first row of the first run
-  run-cell : (R : ℕ) → 1 ≤ R → 0 < n → 0 < countRuns (pieceRuns o t R)
+  run-cell : (R : ℕ) → 1 ≤ R → 0 < n → 0 < countRuns (pieceRuns o t R 0)
   run-cell R Rpos p =
       let u = k .rows (getD l 0 0) .0 (record { which = 0; among = p; low = omega arith; high = k .runs .full 0 p }) in
-      cell-of-turn o t R keeps (some-side lent) Rpos .1 (u .k / R, getD l 0 0, unit-cell R (u .k) (getD l 0 0) Rpos (u .there))
+      some-run o t R keeps (some-side lent) Rpos 0 .1 (u .k / R, getD l 0 0, unit-cell R (u .k) (getD l 0 0) Rpos (u .there))
 
-  cell-run : (R : ℕ) → 1 ≤ R → 0 < countRuns (pieceRuns o t R) → 0 < n
+  cell-run : (R : ℕ) → 1 ≤ R → 0 < countRuns (pieceRuns o t R 0) → 0 < n
   cell-run R Rpos p =
-      let z = cell-of-turn o t R keeps (some-side lent) Rpos .0 p in
+      let z = some-run o t R keeps (some-side lent) Rpos 0 .0 p in
       let u = narrow (z .2) in
       let x = within o t 1 keeps (some-side lent) (omega arith) (u .k) (z .1) (u .there) in
       let y = k .rows (z .1) .1 (record { k = u .k; from = omega arith; to = omega (arith, x .column); there = u .there }) in

@@ -15,4 +15,4 @@ pub record LowestApart (h0 h1 w : List ℕ) (m : ℕ) : Type 0 where
 
 -- turn t has a run
 pub record HasCell (o : List ℕ) (t : ℕ) (r : Bool) : Type 0 where
-  pub every : (R : ℕ) → 1 ≤ R → Decides r (0 < countRuns (pieceRuns o t R))
+  pub every : (R : ℕ) → 1 ≤ R → Decides r (0 < countRuns (pieceRuns o t R 0))

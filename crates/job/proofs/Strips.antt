@@ -14,7 +14,7 @@ use Rattle.defs.specs.Computing.Words.{lengthb, recordsOf, written}
 use Rattle.defs.specs.Computing.Calls.{Left}
 use Rattle.defs.specs.Computing.Sheets.{sheetPieces}
 use Rattle.defs.specs.Computing.Lay.{entriesFrom, heldFrom, placedIn, usedIn, entriesWords, layEntries, LayLeaves}
-use Rattle.laws.proofs.Questions.{question-2, limits-none, length-decides}
+use Rattle.laws.proofs.Questions.{question-2, question-21, limits-none, length-decides}
 use Rattle.tables.specs.Flat.{Flat, tableOf}
 use Rattle.tables.proofs.Flats.{table-apart, table-flat, table-length, count-is}
 use Rattle.tables.proofs.Written.{Writable, written-left}
@@ -29,7 +29,7 @@ use Rattle.job.specs.Jobs.{StripReady, JobPassed, Fresh, JobDone}
 
 -- writing a table
 
-module _ {f l h : List ℕ} {W R N words : ℕ} (s : StripReady f l h W R N words) where
+module _ {f l h : List ℕ} {W R N g words : ℕ} (s : StripReady f l h W R N g words) where
   last-is : getD f N 0 ≡ s .board .count
   last-is = s .board .laid .flat .last
 
@@ -54,20 +54,20 @@ module _ {f l h : List ℕ} {W R N words : ℕ} (s : StripReady f l h W R N word
         fits = omega (arith, count-is (s .board .laid .flat), s .board .few);
       }
 
-  pub strip-left : {s' : List ℕ} → s' ≡ written W R N (recordsOf N words) (tableOf f l h N) →
-      Left W R N words (λ k. getD (tableOf f l h N) k []) s'
+  pub strip-left : {s' : List ℕ} → s' ≡ written W R N g (recordsOf N words) (tableOf f l h N) →
+      Left W R N g words (λ k. getD (tableOf f l h N) k []) s'
   strip-left e =
       let long = length-decides N words .0 (s .long) in
       rw e
-      (subst (λ (n : ℕ). Left W R N n (λ k. getD (tableOf f l h N) k []) (written W R N (recordsOf N words) (tableOf f l h N)))
-      (sym (long .words-are)) (written-left W R N (recordsOf N words) (tableOf f l h N) (s .limits) (long .records) writable))
+      (subst (λ (n : ℕ). Left W R N g n (λ k. getD (tableOf f l h N) k []) (written W R N g (recordsOf N words) (tableOf f l h N)))
+      (sym (long .words-are)) (written-left W R N g (recordsOf N words) (tableOf f l h N) (s .limits) (s .gap) (long .records) writable))
 
 -- from empty tables
 
-pub fresh : {b : List ℕ} {n o : ℕ} {g : Figures} (m : ℕ) (l h f₂ l₂ h₂ : List ℕ) → JobPassed b n o → g ≡ figuresOf b → 4097 ≤ m →
+pub fresh : {b : List ℕ} {gap n o : ℕ} {g : Figures} (m : ℕ) (l h f₂ l₂ h₂ : List ℕ) → JobPassed b gap n o → g ≡ figuresOf b → 4097 ≤ m →
     24001 ≤ length l → 24001 ≤ length h → Roomy f₂ l₂ h₂ →
-    Fresh b (replicate m 0) l h f₂ l₂ h₂ (g .width) (g .resolution) (g .columns) n
-fresh {b} {n} {o} {g} m l h f₂ l₂ h₂ j e long lows highs r =
+    Fresh b (replicate m 0) l h f₂ l₂ h₂ (g .width) (g .resolution) (g .columns) gap n
+fresh {b} {gap} {n} {o} {g} m l h f₂ l₂ h₂ j e long lows highs r =
     let limits : Limits (g .width) (g .resolution) (g .columns) =
     subst (λ (g : Figures). Limits (g .width) (g .resolution) (g .columns)) (sym e)
     (limits-none (sheetW b) (sheetR b) (sheetN b) .0 (j .passed .counted .begun .limits)) in
@@ -79,6 +79,7 @@ fresh {b} {n} {o} {g} m l h f₂ l₂ h₂ j e long lows highs r =
       boards =
           record {
             limits = limits;
+            gap = question-21 gap .0 (j .gap);
             records = length-decides (g .columns) n .0 four .records .at-most;
             room = record { firsts = omega (arith, length-replicate {A = ℕ} m 0); lows = lows; highs = highs };
             room₂ = r;
@@ -106,13 +107,13 @@ fresh {b} {n} {o} {g} m l h f₂ l₂ h₂ j e long lows highs r =
 
 module _
     {b : List ℕ}
-    {n o : ℕ}
+    {g n o : ℕ}
     {f l h f₂ l₂ h₂ : List ℕ}
     {W R N q : ℕ}
-    (j : JobPassed b n o)
-    (s : Fresh b f l h f₂ l₂ h₂ W R N n)
+    (j : JobPassed b g n o)
+    (s : Fresh b f l h f₂ l₂ h₂ W R N g n)
     (eq : q ≡ recordsOf N n) where
-  pub job-ready : {v : ℕ} {out : List ℕ} → v ≡ sheetV b → length out ≡ o → JobReady b v f l h f₂ l₂ h₂ out W R N q
+  pub job-ready : {v : ℕ} {out : List ℕ} → v ≡ sheetV b → length out ≡ o → JobReady b v f l h f₂ l₂ h₂ out W R N g q
   job-ready ev eo =
       record {
         chain = chain-ends (j .passed .counted) ev;
@@ -126,37 +127,37 @@ module _
   four = rw (s .columns) (j .four)
 
   module _ {f' l' h' f₂' l₂' h₂' out out' : List ℕ} {words : ℕ} {t : Tally}
-      (x : JobLaid b (tableOf f l h N) f' l' h' f₂' l₂' h₂' out out' W R N q words t) where
-    pub ready-first : t .second ≡ false → StripReady f' l' h' W R N n
+      (x : JobLaid b (tableOf f l h N) f' l' h' f₂' l₂' h₂' out out' W R N g q words t) where
+    pub ready-first : t .second ≡ false → StripReady f' l' h' W R N g n
     ready-first e =
         let y = rw (e, eq) at (x .boards) in
-        record { limits = y .limits; long = four; board = y .current }
+        record { limits = y .limits; gap = y .gap; long = four; board = y .current }
 
-    pub ready-second : t .second ≡ true → StripReady f₂' l₂' h₂' W R N n
+    pub ready-second : t .second ≡ true → StripReady f₂' l₂' h₂' W R N g n
     ready-second e =
         let y = rw (e, eq) at (x .boards) in
-        record { limits = y .limits; long = four; board = y .current }
+        record { limits = y .limits; gap = y .gap; long = four; board = y .current }
 
-    entries-are : entriesFrom W R N q words 1 (tableOf f l h N) (sheetPieces b) ≡ layEntries b n words
+    entries-are : entriesFrom W R N g q words 1 (tableOf f l h N) (sheetPieces b) ≡ layEntries b g n words
     unfolding layEntries
     entries-are = rw (eq, s .empty, s .width, s .resolution, s .columns) refl
 
-    held-are : heldFrom W R N q words (tableOf f l h N) (sheetPieces b) ≡
-        heldFrom (sheetW b) (sheetR b) (sheetN b) (recordsOf (sheetN b) n) words (replicate (sheetN b) []) (sheetPieces b)
+    held-are : heldFrom W R N g q words (tableOf f l h N) (sheetPieces b) ≡
+        heldFrom (sheetW b) (sheetR b) (sheetN b) g (recordsOf (sheetN b) n) words (replicate (sheetN b) []) (sheetPieces b)
     held-are = rw (eq, s .empty, s .width, s .resolution, s .columns) refl
 
     pub job-done : {s₀ s' : List ℕ} → length s₀ ≡ n →
-        Left W R N n (λ k. getD (heldBy (t .second) f' l' h' f₂' l₂' h₂' N) k []) s' →
-        JobDone b s₀ out words (record { placed = t .placed; used = t .used }) s' out'
+        Left W R N g n (λ k. getD (heldBy (t .second) f' l' h' f₂' l₂' h₂' N) k []) s' →
+        JobDone b g s₀ out words (record { placed = t .placed; used = t .used }) s' out'
     unfolding LayLeaves
     job-done {s₀} {s'} en left =
-        let entries : entriesFrom W R N q words 1 (tableOf f l h N) (sheetPieces b) ≡ layEntries b (length s₀) words =
-        entries-are ∙ ap (λ (m : ℕ). layEntries b m words) (sym en) in
+        let entries : entriesFrom W R N g q words 1 (tableOf f l h N) (sheetPieces b) ≡ layEntries b g (length s₀) words =
+        entries-are ∙ ap (λ (m : ℕ). layEntries b g m words) (sym en) in
         record {
           placed = x .placed ∙ ap placedIn entries;
           used =
               x .used ∙ ap (usedIn R (sheetPieces b)) entries ∙
-              ap (λ (r : ℕ). usedIn r (sheetPieces b) (layEntries b (length s₀) words)) (s .resolution);
+              ap (λ (r : ℕ). usedIn r (sheetPieces b) (layEntries b g (length s₀) words)) (s .resolution);
           output = x .output ∙ ap (λ (es : List Entry). sets out 0 (entriesWords es)) entries;
           strip = rw (x .holds, held-are, s .width, s .resolution, s .columns, ← en) at left;
         }

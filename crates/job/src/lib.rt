@@ -9,19 +9,20 @@ use defs::Figures;
 use defs::Totals;
 
 // The strip that holds the runs of a table.
-fn write_strip(strip: &mut [u16], g: Figures, first: &[u16], lows: &[u16], highs: &[u16])
-    requires { ⌜ StripReady (now first) (now lows) (now highs) (g .width) (g .resolution) (g .columns) (length (now strip)) ⌝ }
-    ensures { λ _. ⌜ Left (g .width) (g .resolution) (g .columns) (length (now (strip .entry)))
+fn write_strip(strip: &mut [u16], g: Figures, gap: u16, first: &[u16], lows: &[u16], highs: &[u16])
+    requires { ⌜ StripReady (now first) (now lows) (now highs) (g .width) (g .resolution) (g .columns) gap (length (now strip)) ⌝ }
+    ensures { λ _. ⌜ Left (g .width) (g .resolution) (g .columns) gap (length (now (strip .entry)))
         (λ k. getD (tableOf (now (first .entry)) (now (lows .entry)) (now (highs .entry)) (g .columns)) k []) (now (strip .exit)) ⌝ }
 {
     let n = first[g.columns as usize] as usize;
-    encode::encode(strip, g, first, lows, highs, n);
+    encode::encode(strip, g, gap, first, lows, highs, n);
 }
 
 // Lays the pieces, from empty tables on, and writes the strip.
 fn lay_all(
     sheet: &[u8],
     g: Figures,
+    gap: u16,
     strip: &mut [u16],
     first: &mut [u16],
     lows: &mut [u16],
@@ -32,9 +33,9 @@ fn lay_all(
     out: &mut [u16],
     work: &mut [u16],
 ) -> Totals
-    requires { ⌜ JobPassed (now sheet) (length (now strip)) (length (now out)) ⌝
-        ∗ ⌜ Fresh (now sheet) (now first) (now lows) (now highs) (now first2) (now lows2) (now highs2) (g .width) (g .resolution) (g .columns) (length (now strip)) ⌝ }
-    ensures { λ t. ⌜ JobDone (now (sheet .entry)) (now (strip .entry)) (now (out .entry)) (length (now (work .entry))) t (now (strip .exit)) (now (out .exit)) ⌝ }
+    requires { ⌜ JobPassed (now sheet) gap (length (now strip)) (length (now out)) ⌝
+        ∗ ⌜ Fresh (now sheet) (now first) (now lows) (now highs) (now first2) (now lows2) (now highs2) (g .width) (g .resolution) (g .columns) gap (length (now strip)) ⌝ }
+    ensures { λ t. ⌜ JobDone (now (sheet .entry)) gap (now (strip .entry)) (now (out .entry)) (length (now (work .entry))) t (now (strip .exit)) (now (out .exit)) ⌝ }
 {
     let v = fields::number(sheet, fields::VERTICES) as usize;
     let q = limits::records_of(g.columns, strip.len());
@@ -42,6 +43,7 @@ fn lay_all(
         sheet,
         v,
         g,
+        gap,
         q,
         first,
         lows,
@@ -53,9 +55,9 @@ fn lay_all(
         work,
     );
     if t.second {
-        write_strip(strip, g, first2, lows2, highs2);
+        write_strip(strip, g, gap, first2, lows2, highs2);
     } else {
-        write_strip(strip, g, first, lows, highs);
+        write_strip(strip, g, gap, first, lows, highs);
     }
     Totals {
         placed: t.placed,
@@ -64,9 +66,15 @@ fn lay_all(
 }
 
 // The tables, and the job on them.
-pub fn lay_tables(sheet: &[u8], strip: &mut [u16], out: &mut [u16], work: &mut [u16]) -> Totals
-    requires { ⌜ JobPassed (now sheet) (length (now strip)) (length (now out)) ⌝ }
-    ensures { λ t. ⌜ JobDone (now (sheet .entry)) (now (strip .entry)) (now (out .entry)) (length (now (work .entry))) t (now (strip .exit)) (now (out .exit)) ⌝ }
+pub fn lay_tables(
+    sheet: &[u8],
+    gap: u16,
+    strip: &mut [u16],
+    out: &mut [u16],
+    work: &mut [u16],
+) -> Totals
+    requires { ⌜ JobPassed (now sheet) gap (length (now strip)) (length (now out)) ⌝ }
+    ensures { λ t. ⌜ JobDone (now (sheet .entry)) gap (now (strip .entry)) (now (out .entry)) (length (now (work .entry))) t (now (strip .exit)) (now (out .exit)) ⌝ }
 {
     let g = reads::figures_of(sheet);
     let mut first = [0u16; limits::FIRSTS];
@@ -78,6 +86,7 @@ pub fn lay_tables(sheet: &[u8], strip: &mut [u16], out: &mut [u16], work: &mut [
     lay_all(
         sheet,
         g,
+        gap,
         strip,
         &mut first,
         &mut lows,

@@ -21,7 +21,7 @@ use Rattle.knife.specs.Safe.{PutAt, Knife-safe, List-knife-safe, Lay-kni
 use Rattle.knife.proofs.Apart.{border-apart, edge-apart, rise-apart}
 use Rattle.knife.proofs.Once.{once-touches}
 
-module _ {W R N : ℕ} {x : Calls} (t : Demand3 W R N x) {l : ℕ} {o : List ℕ} {p : Position} (a : PutAt R x l o p) where
+module _ {W R N g : ℕ} {x : Calls} (t : Demand3 W R N g x) {l : ℕ} {o : List ℕ} {p : Position} (a : PutAt R x l o p) where
   lies : {m : ℕ} {v : List ℕ} {q : Position} → PutAt R x m v q → Lies (x .call) (x .count) m v q
   lies b = record { earlier = b .is-call; puts = b .puts }
 
@@ -37,7 +37,7 @@ module _ {W R N : ℕ} {x : Calls} (t : Demand3 W R N x) {l : ℕ} {o : List ℕ
 
 pub knife-safe : Knife-safe
 unfolding Knife-safe
-knife-safe W R N x t =
+knife-safe W R N g x t =
     record {
       edges = λ a b ne. edge-apart _ _ (apart t a b ne);
       rises = λ a b ne. rise-apart _ _ (apart t a b ne);
@@ -48,10 +48,10 @@ knife-safe W R N x t =
 
 pub list-knife-safe : List-knife-safe
 unfolding List-knife-safe Knife-safe Demand3-holds
-list-knife-safe W R N x t = knife-safe W R N x (demand3-holds W R N x t)
+list-knife-safe W R N g x t = knife-safe W R N g x (demand3-holds W R N g x t)
 
 pub lay-knife-safe : Lay-knife-safe
 unfolding Lay-knife-safe Lay-is-a-list List-knife-safe
-lay-knife-safe b s out work t s' out' work' x =
-    let l = lay-is-a-list b s out work t s' out' work' x in
-    (l, list-knife-safe (sheetW b) (sheetR b) (sheetN b) (asCalls (l .list)) (as-trace (l .steps)))
+lay-knife-safe b g s out work t s' out' work' x =
+    let l = lay-is-a-list b g s out work t s' out' work' x in
+    (l, list-knife-safe (sheetW b) (sheetR b) (sheetN b) g (asCalls (l .list)) (as-trace (l .steps)))

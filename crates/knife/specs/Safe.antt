@@ -48,14 +48,14 @@ module _ (R : ℕ) (x : Calls) where
 
 -- for every list of calls of which demand 3 holds, by whatever program
 unfoldable pub Knife-safe : Type 0
-Knife-safe = (W R N : ℕ) (x : Calls) → Demand3 W R N x → KnifeSafe R x
+Knife-safe = (W R N g : ℕ) (x : Calls) → Demand3 W R N g x → KnifeSafe R x
 
 -- so for every list of place, ask and commit calls,
 unfoldable pub List-knife-safe : Type 0
-List-knife-safe = (W R N : ℕ) (x : Calls) → Trace W R N x → KnifeSafe R x
+List-knife-safe = (W R N g : ℕ) (x : Calls) → Trace W R N g x → KnifeSafe R x
 
 -- and for every laid job, which is such a list
 unfoldable pub Lay-knife-safe : Type 0
 Lay-knife-safe =
-    (b s out work : List ℕ) (t : Totals) (s' out' work' : List ℕ) →
-    LayStep b s out work (Laid t) s' out' work' → (l : LaysList b s t s' out' work) × KnifeSafe (sheetR b) (asCalls (l .list))
+    (b : List ℕ) (g : ℕ) (s out work : List ℕ) (t : Totals) (s' out' work' : List ℕ) →
+    LayStep b g s out work (Laid t) s' out' work' → (l : LaysList b g s t s' out' work) × KnifeSafe (sheetR b) (asCalls (l .list))

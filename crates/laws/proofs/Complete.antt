@@ -93,6 +93,7 @@ complete s w =
     record {
       long = w .long;
       limits = w .limits;
+      gap = w .gap;
       ends = λ k h. ends-within s Q (w .ends k (omega arith));
       columns = λ k h r o. w .columns k r h (chained-of s r Q (firstOf s k) o);
       frees = λ r o. w .free r (chained-of s r Q (firstOf s (columnsOf s)) o);

@@ -15,13 +15,13 @@ use Rattle.defs.specs.Computing.Calls.{placeOn}
 use Rattle.defs.specs.Computing.Lay.{heldAfter, entriesFrom, entriesWords}
 
 -- an entry for each piece
-pub length-entriesFrom : (W R N Q words k : ℕ) (held : List (List Rows)) (ps : List Piece) →
-    length (entriesFrom W R N Q words k held ps) ≡ length ps
+pub length-entriesFrom : (W R N g Q words k : ℕ) (held : List (List Rows)) (ps : List Piece) →
+    length (entriesFrom W R N g Q words k held ps) ≡ length ps
 unfolding entriesFrom
-length-entriesFrom W R N Q words k held [] = refl
-length-entriesFrom W R N Q words k held (p ∷ ps) =
-    let a = placeOn W R N Q held (p .outline) (p .mask) words in
-    ap suc (length-entriesFrom W R N Q words (k + 1) (heldAfter W R held (p .outline) a) ps)
+length-entriesFrom W R N g Q words k held [] = refl
+length-entriesFrom W R N g Q words k held (p ∷ ps) =
+    let a = placeOn W R N g Q held (p .outline) (p .mask) words in
+    ap suc (length-entriesFrom W R N g Q words (k + 1) (heldAfter W R g held (p .outline) a) ps)
 
 -- four words for each entry
 length-fateWords : (f : Fate) → length (fateWords f) ≡ 4

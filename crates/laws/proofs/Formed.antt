@@ -7,11 +7,12 @@ use mathlib.Core.List.{List}
 use Prim.Native.Nat.{ℕ, zero, suc, _+_, _≤_, _<_}
 use native.Mathlib.Omega.{arith}
 use lib.ListN.{length}
-use Rattle.defs.specs.Meaning.Strip.{Limits, Length, widthOf, resolutionOf, columnsOf, firstOf, nextOf, Chained, InColumn, IsFree, InOneChain, WellFormed}
+use Rattle.defs.specs.Meaning.Limits.{mostGap}
+use Rattle.defs.specs.Meaning.Strip.{Limits, Length, widthOf, resolutionOf, columnsOf, gapOf, firstOf, nextOf, Chained, InColumn, IsFree, InOneChain, WellFormed}
 use Rattle.defs.specs.Computing.Test.{listFrom, chainBy, endsBy}
 use Rattle.defs.specs.Computing.Words.{recordsOf, occurrences, inColumnb, isFreeb, concat, wellFormedb}
 use Rattle.laws.proofs.Tests.{Decides, leb-decides, ltb-decides, eqb-decides, and-decides, allTo-decides, unless-zero, decides-by}
-use Rattle.laws.proofs.Questions.{limits-decides, length-decides}
+use Rattle.laws.proofs.Questions.{limits-decides, question-21, length-decides}
 use Rattle.laws.proofs.Occurs.{all-occurring-decides, once-is-only-in}
 use Rattle.laws.proofs.Chains.{ends-of, occurs-of, chained-of}
 
@@ -41,6 +42,7 @@ module _ (s : List ℕ) where
   pub record ListsFormed : Type 0 where
     pub long : Length (columnsOf s) (recordsIn s) (length s)
     pub limits : Limits (widthOf s) (resolutionOf s) (columnsOf s)
+    pub gap : gapOf s ≤ mostGap
     pub ends : (k : ℕ) → k < columnsOf s + 1 → endsBy (nextOf s) (recordsIn s) (recordsIn s) (firstOf s k) ≡ true
     pub columns : (k : ℕ) → k < columnsOf s → (r : ℕ) → 0 < occurrences r (listOf s k) → InColumn s k r
     pub frees : (r : ℕ) → 0 < occurrences r (listOf s (columnsOf s)) → IsFree s r
@@ -53,14 +55,15 @@ module _ (s : List ℕ) where
       (λ h.
       record {
         long = h .0 .0;
-        limits = h .0 .1;
+        limits = h .0 .1 .0;
+        gap = h .0 .1 .1;
         ends = h .1 .0;
         columns = h .1 .1 .0;
         frees = h .1 .1 .1 .0;
         once = h .1 .1 .1 .1;
       })
-      (λ p. ((p .long, p .limits), (p .ends, (p .columns, (p .frees, p .once)))))
-      (and-decides (and-decides (length-decides _ _) (limits-decides _ _ _))
+      (λ p. ((p .long, (p .limits, p .gap)), (p .ends, (p .columns, (p .frees, p .once)))))
+      (and-decides (and-decides (length-decides _ _) (and-decides (limits-decides _ _ _) (question-21 _)))
       (and-decides (allTo-decides _ _ _ (λ k h. (λ e. e, λ e. e)))
       (and-decides (allTo-decides _ _ _ (λ k h. all-occurring-decides _ _ (column-decides k) _))
       (and-decides (all-occurring-decides _ _ free-decides _) (allTo-decides _ _ _ (λ r h. eqb-decides _ _))))))
@@ -89,6 +92,7 @@ module _ (s : List ℕ) (w : wellFormedb s ≡ true) where
       record {
         long = lists .long;
         limits = lists .limits;
+        gap = lists .gap;
         ends = λ k h. ends-of s (recordsIn s) (recordsIn s) (firstOf s k) (lists .ends k (omega arith));
         columns = λ k r h c. lists .columns k h r (listed k r (omega arith) c);
         free = λ r c. lists .frees r (listed (columnsOf s) r (omega arith) c);

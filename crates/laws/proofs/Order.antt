@@ -105,34 +105,34 @@ before-later R o p q e =
     let h = ap (λ (t : ℕ). extentY o t) e in
     ⊎-elim (λ l. inl (omega arith)) (λ l. inr (inl (omega (arith, l .0), omega (arith, l .1))))
 
-module _ (W R N : ℕ) (Occupied : Cells) (o : List ℕ) (mask : ℕ) where
+module _ (W R N g : ℕ) (Occupied : Cells) (o : List ℕ) (mask : ℕ) where
   -- "Each turn takes its least free (c, y)": p is the one that its turn takes.
   pub record LeastInTurn (p : Position) : Type 0 where
-    pub fits : Fits W R N Occupied o mask p
-    pub least : (q : Position) → Fits W R N Occupied o mask q → q .turn ≡ p .turn → q ≢ p → Before p q
+    pub fits : Fits W R N g Occupied o mask p
+    pub least : (q : Position) → Fits W R N g Occupied o mask q → q .turn ≡ p .turn → q ≢ p → Before p q
 
   -- "among turns the least last column wins, then least top, then least turn": p wins, where each turn that has a free position
   -- takes one.
   pub record Wins (p : Position) : Type 0 where
     pub own : LeastInTurn p
-    pub taken : (q : Position) → Fits W R N Occupied o mask q → (l : Position) × (l .turn ≡ q .turn) × LeastInTurn l
+    pub taken : (q : Position) → Fits W R N g Occupied o mask q → (l : Position) × (l .turn ≡ q .turn) × LeastInTurn l
     pub first : (l : Position) → LeastInTurn l → l ≢ p → Later R o p l
 
-  pub best-least : (p : Position) → Best W R N Occupied o mask p → LeastInTurn p
+  pub best-least : (p : Position) → Best W R N g Occupied o mask p → LeastInTurn p
   best-least p b =
       record { fits = b .fits; least = λ q f e n. later-before R o p q (sym e) (b .first q f n) }
 
-  pub best-wins : (p : Position) → Best W R N Occupied o mask p → (l : Position) → LeastInTurn l → l ≢ p → Later R o p l
+  pub best-wins : (p : Position) → Best W R N g Occupied o mask p → (l : Position) → LeastInTurn l → l ≢ p → Later R o p l
   best-wins p b l m = b .first l (m .fits)
 
   -- q is the position that its turn takes, or comes after it
-  taken-first : (q l : Position) → Fits W R N Occupied o mask q → l .turn ≡ q .turn → LeastInTurn l → (q ≡ l) ⊎ Later R o l q
+  taken-first : (q l : Position) → Fits W R N g Occupied o mask q → l .turn ≡ q .turn → LeastInTurn l → (q ≡ l) ⊎ Later R o l q
   taken-first q l f e m = ⊎-elim inl (λ n. inr (before-later R o l q e (m .least q f (sym e) n))) (same-or-not q l)
 
-  pub wins-best : (p : Position) → Wins p → Best W R N Occupied o mask p
+  pub wins-best : (p : Position) → Wins p → Best W R N g Occupied o mask p
   wins-best p w = record { fits = w .own .fits; first = λ q f n. go q f n (w .taken q f) }
     where
-      go : (q : Position) → Fits W R N Occupied o mask q → q ≢ p → (l : Position) × (l .turn ≡ q .turn) × LeastInTurn l → Later R o p q
+      go : (q : Position) → Fits W R N g Occupied o mask q → q ≢ p → (l : Position) × (l .turn ≡ q .turn) × LeastInTurn l → Later R o p q
       go q f n t =
           ⊎-elim (λ (e : q ≡ t .0). w .first q (subst LeastInTurn (sym e) (t .2)) n)
           (λ lq.

@@ -3,20 +3,20 @@
 -- Assumes nothing.
 use mathlib.Core.Path.{_≡_, refl, sym, ap, _∙_}
 use mathlib.Core.Logic.{_↔_}
-use mathlib.Core.Bool.{Bool, true, false, _&&_}
+use mathlib.Core.Bool.{Bool, true, false, _&&_, false≢true}
 use mathlib.Core.List.{List, [], _∷_}
-use Prim.Native.Nat.{ℕ, _-_, _≤_}
+use Prim.Native.Nat.{ℕ, zero, suc, _-_, _≤_}
 use native.Mathlib.Omega.{arith}
-use lib.Dec.{leb, eqb}
+use lib.Dec.{leb, eqb, eqb·suc-zero}
 use lib.ListN.{length, getD, take}
-use Rattle.defs.specs.Meaning.Limits.{Between, mostCoordinate, mostMask, mostTurn, mostBytes, mostRecords, mostWidth, mostResolution, mostColumns, leastVertices, mostVertices}
+use Rattle.defs.specs.Meaning.Limits.{Between, mostCoordinate, mostMask, mostTurn, mostBytes, mostRecords, mostWidth, mostResolution, mostColumns, mostGap, leastVertices, mostVertices}
 use Rattle.defs.specs.Meaning.Turn.{Allows}
 use Rattle.defs.specs.Meaning.Strip.{Limits, Length}
 use Rattle.defs.specs.Meaning.Sheet.{Question1, Question2}
-use Rattle.defs.specs.Meaning.Question.{Question2Size, Question3, Question16, Question17, Question4, Question6List, Question7, Question7List, Question8, Question9, Question9Turn, Question15}
+use Rattle.defs.specs.Meaning.Question.{Question2Size, Question3, Question16, Question17, Question21, Question4, Question6List, Question7, Question7List, Question8, Question9, Question9Turn, Question15}
 use Rattle.defs.specs.Computing.Test.{ask, all}
 use Rattle.defs.specs.Computing.Cells.{allowedb}
-use Rattle.defs.specs.Computing.Words.{widthb, resolutionb, columnsb, limitsb, limitsNo, recordsOf, lengthb}
+use Rattle.defs.specs.Computing.Words.{widthb, resolutionb, columnsb, gapb, limitsb, limitsNo, figuresNo, recordsOf, lengthb}
 use Rattle.defs.specs.Computing.Calls.{q7b, q8b, q9b}
 use Rattle.defs.specs.Computing.Sheets.{q1b, q2b, q6Listb, q7Listb}
 use Rattle.laws.proofs.Tests.{Decides, leb-decides, eqb-decides, and-decides, all-decides, decides-by}
@@ -72,6 +72,10 @@ pub question-17 : (N : ℕ) → Decides (columnsb N) (Question17 N)
 unfolding columnsb
 question-17 N = between 1 N mostColumns
 
+pub question-21 : (g : ℕ) → Decides (gapb g) (Question21 g)
+unfolding gapb
+question-21 g = leb-decides g mostGap
+
 -- the three together are a strip's limits
 pub limits-decides : (W R N : ℕ) → Decides (limitsb W R N) (Limits W R N)
 unfolding limitsb
@@ -97,6 +101,18 @@ limits-none W R N =
     let kept = limits-decides W R N in
     let zero = eqb-decides (limitsNo W R N) 0 in
     (λ e. kept .0 (sym by ∙ zero .1 e), λ l. zero .0 (by ∙ kept .1 l))
+
+-- 3, 16, 17 and 21
+pub figures-none : (W R N g : ℕ) → (figuresNo W R N g ≡ 0) ↔ (Limits W R N × Question21 g)
+unfolding figuresNo
+figures-none W R N g = go (limitsNo W R N) refl (gapb g) refl
+  where
+    go : (n : ℕ) → limitsNo W R N ≡ n → (b : Bool) → gapb g ≡ b →
+        (_≡_ {A = ℕ} (ask (eqb n 0) n λ _. ask b 21 λ _. 0) 0) ↔ (Limits W R N × Question21 g)
+    go zero e true f = (λ z. (limits-none W R N .0 e, question-21 g .0 f), λ h. refl)
+    go zero e false f = (λ z. absurd (omega arith), λ h. absurd (false≢true (sym f ∙ question-21 g .1 (h .1))))
+    go (suc n) e b f =
+        rw (eqb·suc-zero n) (λ z. absurd (omega arith), λ h. absurd (omega (arith, limits-none W R N .1 (h .0))))
 
 -- the number of records is the only one that a strip's length fits
 pub records-are : (N Q words : ℕ) → Length N Q words → recordsOf N words ≡ Q

@@ -37,17 +37,17 @@ asked-numbered : (t : Bool) (n : ℕ) (rest : Unit {0} → Placing) → (t ≡ f
 asked-numbered true n rest h r = r
 asked-numbered false n rest h r = h refl
 
-choose-numbered : (W R Q : ℕ) (held : List (List Rows)) (o : List ℕ) (best : Option Position) → Numbered (choose W R Q held o best)
+choose-numbered : (W R Q : ℕ) (held : List (List Rows)) (o : List ℕ) (best : Option Position) → Numbered (choose W R 0 Q held o best)
 unfolding choose
 choose-numbered W R Q held o none = λ e. omega arith
-choose-numbered W R Q held o (some p) = asked-numbered (q14b W R Q held o p) 14 _ (λ _ e. omega arith) tt
+choose-numbered W R Q held o (some p) = asked-numbered (q14b W R 0 Q held o p) 14 _ (λ _ e. omega arith) tt
 
-place-numbered : (W R N Q : ℕ) (held : List (List Rows)) (o : List ℕ) (mask words : ℕ) → Numbered (placeOn W R N Q held o mask words)
+place-numbered : (W R N Q : ℕ) (held : List (List Rows)) (o : List ℕ) (mask words : ℕ) → Numbered (placeOn W R N 0 Q held o mask words)
 unfolding placeOn
 place-numbered W R N Q held o mask words =
     let no = outlineNo o (q9b mask) mask R in
     asked-numbered (eqb no 0) no _ (eqb-false no 0)
-    (asked-numbered (q12b o mask R words) 12 _ (λ _ e. omega arith) (choose-numbered W R Q held o (bestBelow W R N held o mask 4)))
+    (asked-numbered (q12b o mask R 0 words) 12 _ (λ _ e. omega arith) (choose-numbered W R Q held o (bestBelow W R N 0 held o mask 4)))
 
 -- entries from ordinal i + 1 on
 data InOrder : ℕ → List Entry → Type 0 where
@@ -55,13 +55,13 @@ data InOrder : ℕ → List Entry → Type 0 where
   an-entry : {i : ℕ} {es : List Entry} (a : Placing) → Numbered a → InOrder (i + 1) es →
       InOrder i (record { ordinal = i + 1; fate = fateOf a } ∷ es)
 
-in-order : (W R N Q words i : ℕ) (held : List (List Rows)) (ps : List Piece) → InOrder i (entriesFrom W R N Q words (i + 1) held ps)
+in-order : (W R N Q words i : ℕ) (held : List (List Rows)) (ps : List Piece) → InOrder i (entriesFrom W R N 0 Q words (i + 1) held ps)
 unfolding entriesFrom
 in-order W R N Q words i held [] = no-entry
 in-order W R N Q words i held (p ∷ ps) =
-    let a = placeOn W R N Q held (p .outline) (p .mask) words in
+    let a = placeOn W R N 0 Q held (p .outline) (p .mask) words in
     an-entry a (place-numbered W R N Q held (p .outline) (p .mask) words)
-    (in-order W R N Q words (i + 1) (heldAfter W R held (p .outline) a) ps)
+    (in-order W R N Q words (i + 1) (heldAfter W R 0 held (p .outline) a) ps)
 
 -- the line of one entry, from its words
 abbrev word : Placing → List ℕ → ℕ → ℕ
@@ -96,13 +96,13 @@ lines-are {i} ws rest (an-entry {es = es} a n o) e =
     rw (entry-line (i + 1) ws (entriesWords es ++ rest) (4 * i) a n f, lines-are ws rest o next)
 
 module _ (W R N Q words : ℕ) (held : List (List Rows)) (ps : List Piece) (ws rest : List ℕ)
-    (e : ws ≡ entriesWords (entriesFrom W R N Q words 1 held ps) ++ rest) where
+    (e : ws ≡ entriesWords (entriesFrom W R N 0 Q words 1 held ps) ++ rest) where
   pub job-words : 4 * length ps ≤ length ws
   job-words =
-      let es = entriesFrom W R N Q words 1 held ps in
-      omega (arith, ap length e, length-append (entriesWords es) rest, length-entriesWords es, length-entriesFrom W R N Q words 1 held ps)
+      let es = entriesFrom W R N 0 Q words 1 held ps in
+      omega (arith, ap length e, length-append (entriesWords es) rest, length-entriesWords es, length-entriesFrom W R N 0 Q words 1 held ps)
 
-  pub job-lines : fourLines ws 0 (length ps) ≡ entryLines (entriesFrom W R N Q words 1 held ps)
+  pub job-lines : fourLines ws 0 (length ps) ≡ entryLines (entriesFrom W R N 0 Q words 1 held ps)
   job-lines =
-      ap (fourLines ws 0) (sym (length-entriesFrom W R N Q words 1 held ps)) ∙
+      ap (fourLines ws 0) (sym (length-entriesFrom W R N 0 Q words 1 held ps)) ∙
       lines-are ws rest (in-order W R N Q words 0 held ps) e

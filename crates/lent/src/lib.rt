@@ -8,7 +8,7 @@ pub const WORK: usize = 9000;
 
 pub const ENTRIES: usize = 800;
 
-pub const STRIP: usize = 20100;
+pub const STRIP: usize = 20101;
 
 // The words of the strip to lend. Where the sheet is refused before 4 any number serves.
 pub fn strip_words(sheet: &[u8]) -> usize

@@ -1,10 +1,11 @@
 // The lines of a text, into a cut list. A text has a line `strip W R N`, then for each piece a line `piece MASK x,y x,y x,y ..`, or
-// `path MASK NAME` with the name of a file that holds its outline as a path. `#` begins a comment; after a line `mm` lengths are
-// millimetres, before it units of 1/8 mm.
+// `path MASK NAME` with the name of a file that holds its outline as a path. Before the pieces there may be a line `gap 3.125`, always in
+// millimetres. `#` begins a comment; after a line `mm` all other lengths are millimetres, before it units of 1/8 mm.
 
 ghost use Prim.Native.Nat.{_+_, _≤_, _<_};
 ghost use lib.ListN.{length};
 ghost use Rattle.pathfile.specs.Within.{Within};
+use gapline::Gap;
 use pathfile::Outline;
 use tokens::Number;
 use tokens::Vertex;
@@ -28,6 +29,9 @@ pub struct Job {
     pub width: u16,
     pub resolution: u16,
     pub columns: u16,
+    // in units, 0 until a line says another
+    pub gap: u16,
+    pub gap_said: bool,
     pub pieces: u16,
     // of the cut list
     pub words: usize,
@@ -89,6 +93,25 @@ fn strip_line(line: &[u8], at: usize, job: Job) -> Line {
             strip_resolution(line, next, j)
         }
         Number::Bad(f) => Line::Bad(f),
+    }
+}
+
+// The gap, once and before the pieces.
+fn gap_line(line: &[u8], at: usize, job: Job) -> Line {
+    if job.gap_said {
+        return Line::Bad(fault::GAPS);
+    }
+    if job.pieces != 0 {
+        return Line::Bad(fault::GAP_FIRST);
+    }
+    match gapline::gap_at(line, at) {
+        Gap::Is(n) => {
+            let mut j = job;
+            j.gap = n;
+            j.gap_said = true;
+            Line::Good(j)
+        }
+        Gap::Bad(f) => Line::Bad(f),
     }
 }
 
@@ -192,6 +215,7 @@ pub enum Kind {
     Strip,
     Piece,
     Path,
+    Gap,
     Mm,
     Other,
 }
@@ -205,6 +229,9 @@ fn kind_of(word: &[u8]) -> Kind {
     }
     if tokens::same(word, b"strip") {
         return Kind::Strip;
+    }
+    if tokens::same(word, b"gap") {
+        return Kind::Gap;
     }
     if tokens::same(word, b"mm") {
         return Kind::Mm;
@@ -225,6 +252,7 @@ fn bare_line(line: &[u8], job: Job, list: &mut [u16]) -> Line
         Kind::Strip => strip_line(line, e, job),
         Kind::Piece => piece_line(line, e, true, job, list),
         Kind::Path => piece_line(line, e, false, job, list),
+        Kind::Gap => gap_line(line, e, job),
         Kind::Mm => mm_line(line, e, job),
         Kind::Other => Line::Bad(fault::WORD),
     }
@@ -251,6 +279,8 @@ fn empty_job() -> Job {
         width: 0,
         resolution: 0,
         columns: 0,
+        gap: 0,
+        gap_said: false,
         pieces: 0,
         words: 1,
         mm: false,

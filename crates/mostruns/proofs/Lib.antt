@@ -3,3 +3,4 @@ pub mod Between
 pub mod Numbered
 pub mod Bound
 pub mod Most
+pub mod Work

@@ -1,4 +1,4 @@
--- An outline that passes questions 7, 8 and 10 is at most 16,000 wide in each turn, so an allowed turn has at most 512,000 runs.
+-- An outline that passes questions 7, 8 and 10 is at most 16,000 wide in each turn, so with no gap an allowed turn has at most 512,000 runs.
 -- Assumes nothing.
 use mathlib.Core.Path.{_≡_, refl}
 use mathlib.Core.Bool.{Bool, true, false, cond}
@@ -42,24 +42,24 @@ module _ (o : List ℕ) (q7 : Question7 o) (q8 : Question8 o) where
   extent-limit t h = greatest-limit (vx (turned o t)) (sides o) mostCoordinate (turned-limit t h)
 
   module _ (mask R : ℕ) (q10 : Question10 o mask) (Rpos : 1 ≤ R) where
-    most-below : (t : ℕ) → t ≤ 4 → mostRuns o mask R t ≤ 512000
+    most-below : (t : ℕ) → t ≤ 4 → mostRuns o mask R 0 t ≤ 512000
     unfolding mostRuns Question10
     most-below zero h = omega arith
     most-below (suc t) h = go (allowedb mask t) refl (most-below t (omega arith))
       where
-        go : (b : Bool) → allowedb mask t ≡ b → mostRuns o mask R t ≤ 512000 →
-            max (mostRuns o mask R t) (cond b (countRuns (pieceRuns o t R)) 0) ≤ 512000
+        go : (b : Bool) → allowedb mask t ≡ b → mostRuns o mask R 0 t ≤ 512000 →
+            max (mostRuns o mask R 0 t) (cond b (countRuns (pieceRuns o t R 0)) 0) ≤ 512000
         go true e l =
             omega (arith, runs-bound o t R q7 Rpos (q10 t (allowed mask t (omega arith) .0 e)), extent-limit t (omega arith))
         go false e l = omega arith
 
 pub most-runs-bound : (o : List ℕ) (mask R : ℕ) → Question7 o → Question8 o → Question10 o mask → 1 ≤ R →
-    mostRuns o mask R 4 ≤ 512000
+    mostRuns o mask R 0 4 ≤ 512000
 most-runs-bound o mask R q7 q8 q10 Rpos = most-below o q7 q8 mask R q10 Rpos 4 (omega arith)
 
 -- So a work buffer of three words for each of these is never too short.
-pub enough-work : (o : List ℕ) (mask R : ℕ) → Question7 o → Question8 o → Question10 o mask → 1 ≤ R → Question12 o mask R 1536000
+pub enough-work : (o : List ℕ) (mask R : ℕ) → Question7 o → Question8 o → Question10 o mask → 1 ≤ R → Question12 o mask R 0 1536000
 unfolding q12b
 enough-work o mask R q7 q8 q10 Rpos =
-    question-12 o mask R q10 (has-side o q7) Rpos 1536000 .0
-    (le-leb (3 * mostRuns o mask R 4) 1536000 (omega (arith, most-runs-bound o mask R q7 q8 q10 Rpos)))
+    question-12 o mask R q10 (has-side o q7) Rpos 0 1536000 .0
+    (le-leb (3 * mostRuns o mask R 0 4) 1536000 (omega (arith, most-runs-bound o mask R q7 q8 q10 Rpos)))

@@ -12,7 +12,7 @@ use borrow.Author.Tests.{ltb-true}
 use Rattle.defs.specs.Meaning.Outline.{vx, edgeAt, sides}
 use Rattle.defs.specs.Meaning.Turn.{greatest}
 use Rattle.defs.specs.Computing.Test.{anyTo}
-use Rattle.defs.specs.Computing.Cells.{notHigher, opens, coveredb}
+use Rattle.defs.specs.Computing.Cells.{notHigher, opens, unitsb}
 use Rattle.laws.proofs.Tests.{and-right, anyTo-at, anyTo-of}
 use Rattle.geom.proofs.Extent.{edge-bounded}
 use Rattle.mostruns.proofs.Ranks.{rank-at-most}
@@ -28,8 +28,8 @@ record Opening (v : List ℕ) (R i j : ℕ) : Type 0 where
   is-open : Open v unit j edge
 
 module _ (v : List ℕ) (R : ℕ) where
-  opening : (i j : ℕ) → coveredb v R i j ≡ true → Opening v R i j
-  unfolding coveredb
+  opening : (i j : ℕ) → unitsb v (i * R) R j ≡ true → Opening v R i j
+  unfolding unitsb
   opening i j e =
       let s = anyTo-at (λ k. anyTo (opens v (i * R + k) j) (sides v)) R e in
       let t = anyTo-at (opens v (i * R + s .i) j) (sides v) (s .holds) in
@@ -42,8 +42,8 @@ module _ (v : List ℕ) (R : ℕ) where
         is-open = opens-decides v (i * R + s .i) j (t .i) .0 (t .holds);
       }
 
-  opening-covers : {i j : ℕ} → Opening v R i j → coveredb v R i j ≡ true
-  unfolding coveredb
+  opening-covers : {i j : ℕ} → Opening v R i j → unitsb v (i * R) R j ≡ true
+  unfolding unitsb
   opening-covers {i} {j} u =
       anyTo-of (λ k. anyTo (opens v (i * R + k) j) (sides v)) R (u .unit - i * R) (omega (arith, u .from, u .to))
       (subst (λ (k : ℕ). anyTo (opens v k j) (sides v) ≡ true) (omega (arith, u .from))
@@ -56,18 +56,18 @@ module _ (v : List ℕ) (R : ℕ) where
   numberBy u = 32 * u .unit + rankOf u / 2
 
   -- a cell that is not covered may have any number
-  numberIf : (i j : ℕ) (b : Bool) → coveredb v R i j ≡ b → ℕ
+  numberIf : (i j : ℕ) (b : Bool) → unitsb v (i * R) R j ≡ b → ℕ
   numberIf i j true e = numberBy (opening i j e)
   numberIf i j false e = 0
 
   pub number : ℕ → ℕ → ℕ
-  number i j = numberIf i j (coveredb v R i j) refl
+  number i j = numberIf i j (unitsb v (i * R) R j) refl
 
-  numbered : (i j : ℕ) → coveredb v R i j ≡ true → (u : Opening v R i j) × (number i j ≡ numberBy u)
+  numbered : (i j : ℕ) → unitsb v (i * R) R j ≡ true → (u : Opening v R i j) × (number i j ≡ numberBy u)
   unfolding number numberIf
-  numbered i j = go (coveredb v R i j) refl
+  numbered i j = go (unitsb v (i * R) R j) refl
     where
-      go : (b : Bool) (e : coveredb v R i j ≡ b) → b ≡ true → (u : Opening v R i j) × (numberIf i j b e ≡ numberBy u)
+      go : (b : Bool) (e : unitsb v (i * R) R j ≡ b) → b ≡ true → (u : Opening v R i j) × (numberIf i j b e ≡ numberBy u)
       go true e t = (opening i j e, refl)
       go false e t = absurd (false≢true t)
 
@@ -76,7 +76,7 @@ module _ (v : List ℕ) (R : ℕ) where
     rank-limit u = omega (arith, u .is-open .odd, rank-at-most (u .unit) v (u .edge))
 
     -- an edge that spans the unit column ends to the right of it
-    pub number-below : (i j : ℕ) → coveredb v R i j ≡ true → number i j < 32 * greatest (vx v) (sides v)
+    pub number-below : (i j : ℕ) → unitsb v (i * R) R j ≡ true → number i j < 32 * greatest (vx v) (sides v)
     number-below i j e =
         let u = numbered i j e .0 in
         omega (
@@ -87,8 +87,8 @@ module _ (v : List ℕ) (R : ℕ) where
           ltb-true (u .unit) (edgeAt v (u .edge) .xr) (and-right (leb (edgeAt v (u .edge) .xl) (u .unit)) _ (u .is-open .edge)),
         )
 
-    pub number-joins : (i j i' j' : ℕ) → coveredb v R i j ≡ true → coveredb v R i' j' ≡ true → number i j ≡ number i' j' →
-        (i ≡ i') × ((x : ℕ) → j ≤ x → x ≤ j' → coveredb v R i' x ≡ true)
+    pub number-joins : (i j i' j' : ℕ) → unitsb v (i * R) R j ≡ true → unitsb v (i' * R) R j' ≡ true → number i j ≡ number i' j' →
+        (i ≡ i') × ((x : ℕ) → j ≤ x → x ≤ j' → unitsb v (i' * R) R x ≡ true)
     number-joins i j i' j' p q e = (
       sym (div-eq-of-lt-le R (u .from) (u .to)) ∙ ap (λ (k : ℕ). k / R) units ∙ div-eq-of-lt-le R (w .from) (w .to),
       λ x below above.

@@ -7,9 +7,9 @@ use Prim.Native.Nat.{ℕ, zero, suc, _+_, _<_}
 use native.Mathlib.Omega.{arith}
 use lib.ListN.{getD, replicate, length-replicate}
 use Rattle.defs.specs.Computing.Test.{listFrom}
-use Rattle.defs.specs.Computing.Words.{limitsNo, lengthb, recordsOf, written}
+use Rattle.defs.specs.Computing.Words.{figuresNo, lengthb, recordsOf, written}
 use Rattle.defs.specs.Computing.Calls.{Left, openedStrip}
-use Rattle.laws.proofs.Questions.{limits-none, length-decides}
+use Rattle.laws.proofs.Questions.{figures-none, length-decides}
 use Rattle.tables.specs.Flat.{rowsFrom, rowsIn, tableOf, Flat}
 use Rattle.tables.proofs.Written.{written-left}
 use Rattle.tables.proofs.Empty.{column-none, empty-writable}
@@ -45,28 +45,30 @@ pub empty-table : (m : ℕ) (l h : List ℕ) (N : ℕ) → tableOf (replicate m 
 unfolding tableOf
 empty-table m l h N = empty-columns (rowsIn (replicate m 0) l h) 0 N (empty-column m l h)
 
-pub opened-is : (m : ℕ) (l h : List ℕ) (W R N words : ℕ) →
-    written W R N (recordsOf N words) (tableOf (replicate m 0) l h N) ≡ openedStrip W R N words
+pub opened-is : (m : ℕ) (l h : List ℕ) (W R N g words : ℕ) →
+    written W R N g (recordsOf N words) (tableOf (replicate m 0) l h N) ≡ openedStrip W R N g words
 unfolding openedStrip
-opened-is m l h W R N words = ap (written W R N (recordsOf N words)) (empty-table m l h N)
+opened-is m l h W R N g words = ap (written W R N g (recordsOf N words)) (empty-table m l h N)
 
--- what questions 3, 16, 17 and 4 give
-pub room-of : (W R N words : ℕ) → limitsNo W R N ≡ 0 → lengthb N words ≡ true → Room N 0 words
-room-of W R N words three four =
-    record { columns = limits-none W R N .0 three .columns .at-most; long = four; fits = omega arith }
+-- what questions 3, 16, 17, 21 and 4 give
+pub room-of : (W R N g words : ℕ) → figuresNo W R N g ≡ 0 → lengthb N words ≡ true → Room N 0 words
+room-of W R N g words figures four =
+    record { columns = figures-none W R N g .0 figures .0 .columns .at-most; long = four; fits = omega arith }
 
-pub opened-left : (W R N words : ℕ) → limitsNo W R N ≡ 0 → lengthb N words ≡ true →
-    Left W R N words (λ k. []) (openedStrip W R N words)
+pub opened-left : (W R N g words : ℕ) → figuresNo W R N g ≡ 0 → lengthb N words ≡ true →
+    Left W R N g words (λ k. []) (openedStrip W R N g words)
 unfolding openedStrip
-opened-left W R N words three four =
+opened-left W R N g words figures four =
     let long = length-decides N words .0 four in
     let Q = recordsOf N words in
-    let left = written-left W R N Q (replicate N []) (limits-none W R N .0 three) (long .records) (empty-writable W N Q) in
+    let fits = figures-none W R N g .0 figures in
+    let left = written-left W R N g Q (replicate N []) (fits .0) (fits .1) (long .records) (empty-writable W N Q) in
     record {
       well-formed = left .well-formed;
       long = left .long ∙ sym (long .words-are);
       width = left .width;
       resolution = left .resolution;
       columns = left .columns;
+      gap = left .gap;
       holds = λ k b. left .holds k b ∙ column-none N k b;
     }

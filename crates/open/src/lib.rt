@@ -8,14 +8,14 @@ use defs::Figures;
 use defs::Opening;
 use defs::Refusal;
 
-// The strip of these figures whose columns are empty. No old word of it is looked at.
-fn put_empty(strip: &mut [u16], g: Figures)
+// The strip of these figures and this gap whose columns are empty. No old word of it is looked at.
+fn put_empty(strip: &mut [u16], g: Figures, gap: u16)
     requires { ⌜ Room (g .columns) 0 (length (now strip)) ⌝ }
-    ensures { λ _. ⌜ now (strip .exit) ≡ openedStrip (g .width) (g .resolution) (g .columns) (length (now (strip .entry))) ⌝ }
+    ensures { λ _. ⌜ now (strip .exit) ≡ openedStrip (g .width) (g .resolution) (g .columns) gap (length (now (strip .entry))) ⌝ }
 {
     let first = [0u16; limits::FIRSTS];
     let none = [0u16; 0];
-    encode::encode(strip, g, &first, &none, &none, 0);
+    encode::encode(strip, g, gap, &first, &none, &none, 0);
 }
 
 fn refused(number: u16) -> Opening
@@ -28,10 +28,10 @@ fn refused(number: u16) -> Opening
 }
 
 // The open call.
-pub fn open(w: u16, r: u16, n: u16, strip: &mut [u16]) -> Opening
-    ensures { λ a. ⌜ OpenStep w r n (now (strip .entry)) a (now (strip .exit)) ⌝ }
+pub fn open(w: u16, r: u16, n: u16, g: u16, strip: &mut [u16]) -> Opening
+    ensures { λ a. ⌜ OpenStep w r n g (now (strip .entry)) a (now (strip .exit)) ⌝ }
 {
-    let no = limits::limits_no(w, r, n);
+    let no = limits::figures_no(w, r, n, g);
     if no != 0 {
         return refused(no);
     }
@@ -45,6 +45,7 @@ pub fn open(w: u16, r: u16, n: u16, strip: &mut [u16]) -> Opening
             resolution: r,
             columns: n,
         },
+        g,
     );
     Opening::Opened
 }

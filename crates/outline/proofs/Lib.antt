@@ -1,2 +1,3 @@
 pub mod Vertices
 pub mod Extents
+pub mod Limit

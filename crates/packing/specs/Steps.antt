@@ -22,15 +22,15 @@ use Rattle.pathdefs.specs.Answer.{pathReading}
 use Rattle.pathdefs.specs.Computing.Paths.{PathReadStep, PathWriteStep}
 use Rattle.packing.specs.Packed.{Packs, PacksWide}
 
-pub record OpenPacked (W R N : ℕ) (s : List ℕ) (n : ℕ) (s' : List ℕ) : Type 0 where
+pub record OpenPacked (W R N g : ℕ) (s : List ℕ) (n : ℕ) (s' : List ℕ) : Type 0 where
   pub answer : Opening
-  pub step : OpenStep W R N s answer s'
+  pub step : OpenStep W R N g s answer s'
   pub packs : Packs n (opening answer)
 
 -- the number of runs in the high 32 bits
-pub record CoverPacked (o : List ℕ) (t R : ℕ) (out : List ℕ) (n : ℕ) (out' : List ℕ) : Type 0 where
+pub record CoverPacked (o : List ℕ) (t R g : ℕ) (out : List ℕ) (n : ℕ) (out' : List ℕ) : Type 0 where
   pub answer : Covering
-  pub step : CoverStep o t R out answer out'
+  pub step : CoverStep o t R g out answer out'
   pub packs : PacksWide n (covering answer)
 
 -- turn, column, height after the number 0
@@ -63,9 +63,9 @@ pub record WritePacked (W R N : ℕ) (ws out : List ℕ) (n : ℕ) (out' : List 
   pub packs : PacksWide n (writing answer)
 
 -- pieces placed, used columns after the number 0
-pub record LayPacked (b s out work : List ℕ) (n : ℕ) (s' out' work' : List ℕ) : Type 0 where
+pub record LayPacked (b : List ℕ) (g : ℕ) (s out work : List ℕ) (n : ℕ) (s' out' work' : List ℕ) : Type 0 where
   pub answer : Laying
-  pub step : LayStep b s out work answer s' out' work'
+  pub step : LayStep b g s out work answer s' out' work'
   pub packs : Packs n (laying answer)
 
 -- the numbers of two edges after the number 0, both 0 where nothing is drawn twice
@@ -88,9 +88,9 @@ pub record PathWritePacked (o out : List ℕ) (n : ℕ) (out' : List ℕ) : Type
 
 -- The same on buffers passed as bytes.
 
-pub record OpenBytesPacked (W R N : ℕ) (strip : List ℕ) (n : ℕ) (strip' : List ℕ) : Type 0 where
+pub record OpenBytesPacked (W R N g : ℕ) (strip : List ℕ) (n : ℕ) (strip' : List ℕ) : Type 0 where
   pub answer : Opening
-  pub step : OpenBytesStep W R N strip answer strip'
+  pub step : OpenBytesStep W R N g strip answer strip'
   pub packs : Packs n (opening answer)
 
 abbrev pub PlaceBytesPacked : List ℕ → List ℕ → ℕ → List ℕ → ℕ → List ℕ → List ℕ → Type 0
@@ -102,7 +102,7 @@ AskBytesPacked strip o mask work n strip' work' = OnBytes (λ s v w s' w'. AskPa
 abbrev pub CommitBytesPacked : List ℕ → List ℕ → Position → List ℕ → ℕ → List ℕ → List ℕ → Type 0
 CommitBytesPacked strip o p work n strip' work' = OnBytes (λ s v w s' w'. CommitPacked s v p w n s' w') strip o work strip' work'
 
-pub record LayBytesPacked (sheet strip out work : List ℕ) (n : ℕ) (strip' out' work' : List ℕ) : Type 0 where
+pub record LayBytesPacked (sheet : List ℕ) (g : ℕ) (strip out work : List ℕ) (n : ℕ) (strip' out' work' : List ℕ) : Type 0 where
   pub answer : Laying
-  pub step : LayBytesStep sheet strip out work answer strip' out' work'
+  pub step : LayBytesStep sheet g strip out work answer strip' out' work'
   pub packs : Packs n (laying answer)

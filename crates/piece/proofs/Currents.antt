@@ -27,11 +27,12 @@ same-place e = cc
 not-placed : {r : Refusal} {q : Position} → ¬ (Refused r ≡ Placed q)
 not-placed e = let z : _≡_ {A = ℕ} 0 1 = cc in omega arith
 
-module _ {f l h f₂ l₂ h₂ : List ℕ} {W R N Q : ℕ} where
-  pub tabled : Boards false f l h f₂ l₂ h₂ W R N Q → Tabled f l h f₂ l₂ h₂ W R N Q
+module _ {f l h f₂ l₂ h₂ : List ℕ} {W R N g Q : ℕ} where
+  pub tabled : Boards false f l h f₂ l₂ h₂ W R N g Q → Tabled f l h f₂ l₂ h₂ W R N g Q
   tabled x =
       record {
         limits = x .limits;
+        gap = x .gap;
         records = x .records;
         count = x .current .count;
         table = x .current .laid;
@@ -41,15 +42,15 @@ module _ {f l h f₂ l₂ h₂ : List ℕ} {W R N Q : ℕ} where
       }
 
   -- the tables, the other one named first
-  pub swapped : Boards true f l h f₂ l₂ h₂ W R N Q → Boards false f₂ l₂ h₂ f l h W R N Q
-  swapped x = record { limits = x .limits; records = x .records; room = x .room₂; room₂ = x .room; current = x .current }
+  pub swapped : Boards true f l h f₂ l₂ h₂ W R N g Q → Boards false f₂ l₂ h₂ f l h W R N g Q
+  swapped x = record { limits = x .limits; gap = x .gap; records = x .records; room = x .room₂; room₂ = x .room; current = x .current }
 
-  pub swapped-back : Boards false f₂ l₂ h₂ f l h W R N Q → Boards true f l h f₂ l₂ h₂ W R N Q
-  swapped-back x = record { limits = x .limits; records = x .records; room = x .room₂; room₂ = x .room; current = x .current }
+  pub swapped-back : Boards false f₂ l₂ h₂ f l h W R N g Q → Boards true f l h f₂ l₂ h₂ W R N g Q
+  swapped-back x = record { limits = x .limits; gap = x .gap; records = x .records; room = x .room₂; room₂ = x .room; current = x .current }
 
 -- the answer of place on the first table: a piece that is placed makes the other table current
-module _ (f l h f₂ l₂ h₂ f₂' l₂' h₂' o : List ℕ) (W R N Q : ℕ) where
-  next-fits : (a : Placing) → NextIf f l h f₂' l₂' h₂' o W R N Q a → PlaceFits W R N o a
+module _ (f l h f₂ l₂ h₂ f₂' l₂' h₂' o : List ℕ) (W R N g Q : ℕ) where
+  next-fits : (a : Placing) → NextIf f l h f₂' l₂' h₂' o W R N g Q a → PlaceFits W R N o a
   next-fits (Placed p) n =
       record {
         turn = λ q e. rw (same-place e) at (n .turn);
@@ -57,14 +58,15 @@ module _ (f l h f₂ l₂ h₂ f₂' l₂' h₂' o : List ℕ) (W R N Q : ℕ) w
       }
   next-fits (Refused r) n = record { turn = λ q e. absurd (not-placed e); on-strip = λ q e. absurd (not-placed e) }
 
-  next-turns : (a : Placing) → Boards false f l h f₂ l₂ h₂ W R N Q → Roomy f₂' l₂' h₂' →
-      NextIf f l h f₂' l₂' h₂' o W R N Q a → Turns false f l h f₂ l₂ h₂ f l h f₂' l₂' h₂' o W R N Q a
+  next-turns : (a : Placing) → Boards false f l h f₂ l₂ h₂ W R N g Q → Roomy f₂' l₂' h₂' →
+      NextIf f l h f₂' l₂' h₂' o W R N g Q a → Turns false f l h f₂ l₂ h₂ f l h f₂' l₂' h₂' o W R N g Q a
   unfolding heldAfter
   next-turns (Placed p) x r n =
       record {
         boards =
             record {
               limits = x .limits;
+              gap = x .gap;
               records = x .records;
               room = x .room;
               room₂ = r;
@@ -74,28 +76,28 @@ module _ (f l h f₂ l₂ h₂ f₂' l₂' h₂' o : List ℕ) (W R N Q : ℕ) w
       }
   next-turns (Refused q) x r n =
       record {
-        boards = record { limits = x .limits; records = x .records; room = x .room; room₂ = r; current = x .current };
+        boards = record { limits = x .limits; gap = x .gap; records = x .records; room = x .room; room₂ = r; current = x .current };
         held = refl;
       }
 
-pub placed-first : {f l h f₂ l₂ h₂ f₂' l₂' h₂' o : List ℕ} {W R N Q mask words : ℕ} {a : Placing} → Boards false f l h f₂ l₂ h₂ W R N Q →
-    Roomy f₂' l₂' h₂' → PlacedOn f l h f₂' l₂' h₂' o W R N Q mask words a →
-    PlacedBy false f l h f₂ l₂ h₂ f l h f₂' l₂' h₂' o W R N Q mask words a
-placed-first {f} {l} {h} {f₂} {l₂} {h₂} {f₂'} {l₂'} {h₂'} {o} {W} {R} {N} {Q} {a = a} x r on =
+pub placed-first : {f l h f₂ l₂ h₂ f₂' l₂' h₂' o : List ℕ} {W R N g Q mask words : ℕ} {a : Placing} → Boards false f l h f₂ l₂ h₂ W R N g Q →
+    Roomy f₂' l₂' h₂' → PlacedOn f l h f₂' l₂' h₂' o W R N g Q mask words a →
+    PlacedBy false f l h f₂ l₂ h₂ f l h f₂' l₂' h₂' o W R N g Q mask words a
+placed-first {f} {l} {h} {f₂} {l₂} {h₂} {f₂'} {l₂'} {h₂'} {o} {W} {R} {N} {g} {Q} {a = a} x r on =
     record {
       answer = on .answer;
-      turns = next-turns f l h f₂ l₂ h₂ f₂' l₂' h₂' o W R N Q a x r (on .next);
-      fits = next-fits f l h f₂ l₂ h₂ f₂' l₂' h₂' o W R N Q a (on .next);
+      turns = next-turns f l h f₂ l₂ h₂ f₂' l₂' h₂' o W R N g Q a x r (on .next);
+      fits = next-fits f l h f₂ l₂ h₂ f₂' l₂' h₂' o W R N g Q a (on .next);
     }
 
 -- on the second table, by the first
-swapped-turns : {f l h f₂ l₂ h₂ f' l' h' f₂' l₂' h₂' o : List ℕ} {W R N Q : ℕ} (a : Placing) →
-    Turns false f₂ l₂ h₂ f l h f₂' l₂' h₂' f' l' h' o W R N Q a → Turns true f l h f₂ l₂ h₂ f' l' h' f₂' l₂' h₂' o W R N Q a
+swapped-turns : {f l h f₂ l₂ h₂ f' l' h' f₂' l₂' h₂' o : List ℕ} {W R N g Q : ℕ} (a : Placing) →
+    Turns false f₂ l₂ h₂ f l h f₂' l₂' h₂' f' l' h' o W R N g Q a → Turns true f l h f₂ l₂ h₂ f' l' h' f₂' l₂' h₂' o W R N g Q a
 swapped-turns (Placed p) t = record { boards = swapped (t .boards); held = t .held }
 swapped-turns (Refused r) t = record { boards = swapped-back (t .boards); held = t .held }
 
-pub placed-second : {f l h f₂ l₂ h₂ f' l' h' o : List ℕ} {W R N Q mask words : ℕ} {a : Placing} → Boards true f l h f₂ l₂ h₂ W R N Q →
-    Roomy f' l' h' → PlacedOn f₂ l₂ h₂ f' l' h' o W R N Q mask words a → PlacedBy true f l h f₂ l₂ h₂ f' l' h' f₂ l₂ h₂ o W R N Q mask words a
+pub placed-second : {f l h f₂ l₂ h₂ f' l' h' o : List ℕ} {W R N g Q mask words : ℕ} {a : Placing} → Boards true f l h f₂ l₂ h₂ W R N g Q →
+    Roomy f' l' h' → PlacedOn f₂ l₂ h₂ f' l' h' o W R N g Q mask words a → PlacedBy true f l h f₂ l₂ h₂ f' l' h' f₂ l₂ h₂ o W R N g Q mask words a
 placed-second {a = a} x r on =
     let p = placed-first (swapped x) r on in
     record { answer = p .answer; turns = swapped-turns a (p .turns); fits = p .fits }
@@ -119,18 +121,18 @@ place-ends l x p e = (x .turn p e, omega (arith, x .on-strip p e .columns, l .co
 -- one piece, by what its parts gave
 module _
     {f l h f₂ l₂ h₂ f' l' h' f₂' l₂' h₂' out out' o : List ℕ}
-    {W R N Q mask words : ℕ}
+    {W R N g Q mask words : ℕ}
     {t t' : Tally}
     {a : Placing}
     {e : ℕ}
     {fate : Fate}
-    (x : PlacedBy (t .second) f l h f₂ l₂ h₂ f' l' h' f₂' l₂' h₂' o W R N Q mask words a) where
+    (x : PlacedBy (t .second) f l h f₂ l₂ h₂ f' l' h' f₂' l₂' h₂' o W R N g Q mask words a) where
   pub piece-laid : fate ≡ fateOf a → out' ≡ sets out (4 * (t .ordinal - 1)) (fateWords fate) → e ≡ endOf R o a → t' ≡ tallied t a e N →
-      PieceLaid f l h f₂ l₂ h₂ f' l' h' f₂' l₂' h₂' out out' o W R N Q mask words t t'
+      PieceLaid f l h f₂ l₂ h₂ f' l' h' f₂' l₂' h₂' out out' o W R N g Q mask words t t'
   piece-laid ef eo ee et =
       record {
-        turns = subst (Turns (t .second) f l h f₂ l₂ h₂ f' l' h' f₂' l₂' h₂' o W R N Q) (x .answer) (x .turns);
-        output = eo ∙ ap (λ (g : Fate). sets out (4 * (t .ordinal - 1)) (fateWords g)) (ef ∙ ap fateOf (x .answer));
+        turns = subst (Turns (t .second) f l h f₂ l₂ h₂ f' l' h' f₂' l₂' h₂' o W R N g Q) (x .answer) (x .turns);
+        output = eo ∙ ap (λ (f : Fate). sets out (4 * (t .ordinal - 1)) (fateWords f)) (ef ∙ ap fateOf (x .answer));
         tally = et ∙ ap (λ (n : ℕ). tallied t a n N) ee ∙ ap (λ (b : Placing). tallied t b (endOf R o b) N) (x .answer);
         end = subst (λ (b : Placing). endOf R o b ≤ N) (x .answer) (end-fits a (x .fits));
       }

@@ -41,9 +41,9 @@ module _ (b : List ℕ) (at : ℕ) {v f : ℕ} (here : PieceAt b v at) (ef : f �
   unfolding sheetPieceNo
   not-broken i = not-ill b at here ef (record { ends = asked _ _ pass not-zero .0 }) i
 
-  module _ {k m : ℕ} {w w' : List ℕ} (g : Gathered b v f w w' k) (l : 128 ≤ length w) (em : m ≡ recordNumber b (v + at) 1) where
+  module _ {k m : ℕ} {w w' : List ℕ} (words : Gathered b v f w w' k) (l : 128 ≤ length w) (em : m ≡ recordNumber b (v + at) 1) where
     pub outline : take (2 * k) w' ≡ pieceOf b at .outline
-    outline = outline-is b at (here .vertices) ef g l
+    outline = outline-is b at (here .vertices) ef words l
 
     pub mask : m ≡ pieceOf b at .mask
     mask = em ∙ rw (here .vertices) (sym (mask-of b at))
@@ -52,6 +52,6 @@ module _ (b : List ℕ) (at : ℕ) {v f : ℕ} (here : PieceAt b v at) (ef : f �
     ordered = rw (outline, mask) (piece-ordered b at pass)
 
     -- what is known of the piece is known of its words
-    pub none-before : {W R N lower : ℕ} (held : List (List Rows)) →
-        NoneBefore W R N held (pieceOf b at .outline) (pieceOf b at .mask) lower → NoneBefore W R N held (take (2 * k) w') m lower
+    pub none-before : {W R N g lower : ℕ} (held : List (List Rows)) →
+        NoneBefore W R N g held (pieceOf b at .outline) (pieceOf b at .mask) lower → NoneBefore W R N g held (take (2 * k) w') m lower
     none-before held h = rw (outline, mask) h

@@ -32,15 +32,16 @@ pub record Roomy (f l h : List ℕ) : Type 0 where
   pub lows : 24001 ≤ length l
   pub highs : 24001 ≤ length h
 
-pub record Boards (second : Bool) (f l h f₂ l₂ h₂ : List ℕ) (W R N Q : ℕ) : Type 0 where
+pub record Boards (second : Bool) (f l h f₂ l₂ h₂ : List ℕ) (W R N g Q : ℕ) : Type 0 where
   pub limits : Limits W R N
+  pub gap : g ≤ 400
   pub records : Q ≤ 16000
   pub room : Roomy f l h
   pub room₂ : Roomy f₂ l₂ h₂
   pub current : Current second f l h f₂ l₂ h₂ W N Q
 
 -- the tables after an answer: the current one has the piece where it is placed
-pub record Turns (second : Bool) (f l h f₂ l₂ h₂ f' l' h' f₂' l₂' h₂' : List ℕ) (o : List ℕ) (W R N Q : ℕ) (a : Placing) : Type 0 where
-  pub boards : Boards (turned second a) f' l' h' f₂' l₂' h₂' W R N Q
+pub record Turns (second : Bool) (f l h f₂ l₂ h₂ f' l' h' f₂' l₂' h₂' : List ℕ) (o : List ℕ) (W R N g Q : ℕ) (a : Placing) : Type 0 where
+  pub boards : Boards (turned second a) f' l' h' f₂' l₂' h₂' W R N g Q
   pub held :
-      heldBy (turned second a) f' l' h' f₂' l₂' h₂' N ≡ heldAfter W R (heldBy second f l h f₂ l₂ h₂ N) o a
+      heldBy (turned second a) f' l' h' f₂' l₂' h₂' N ≡ heldAfter W R g (heldBy second f l h f₂ l₂ h₂ N) o a

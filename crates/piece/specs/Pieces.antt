@@ -21,22 +21,22 @@ pub record PlaceFits (W R N : ℕ) (o : List ℕ) (a : Placing) : Type 0 where
   pub on-strip : (p : Position) → a ≡ Placed p → OnStrip W R N o p
 
 -- the answer of the current table
-abbrev pub answerBy : Bool → (f l h f₂ l₂ h₂ o : List ℕ) → (W R N Q mask words : ℕ) → Placing
-answerBy second f l h f₂ l₂ h₂ o W R N Q mask words = placeOn W R N Q (heldBy second f l h f₂ l₂ h₂ N) o mask words
+abbrev pub answerBy : Bool → (f l h f₂ l₂ h₂ o : List ℕ) → (W R N g Q mask words : ℕ) → Placing
+answerBy second f l h f₂ l₂ h₂ o W R N g Q mask words = placeOn W R N g Q (heldBy second f l h f₂ l₂ h₂ N) o mask words
 
-pub record PlacedBy (second : Bool) (f l h f₂ l₂ h₂ f' l' h' f₂' l₂' h₂' o : List ℕ) (W R N Q mask words : ℕ) (a : Placing) : Type 0 where
-  pub answer : a ≡ answerBy second f l h f₂ l₂ h₂ o W R N Q mask words
-  pub turns : Turns second f l h f₂ l₂ h₂ f' l' h' f₂' l₂' h₂' o W R N Q a
+pub record PlacedBy (second : Bool) (f l h f₂ l₂ h₂ f' l' h' f₂' l₂' h₂' o : List ℕ) (W R N g Q mask words : ℕ) (a : Placing) : Type 0 where
+  pub answer : a ≡ answerBy second f l h f₂ l₂ h₂ o W R N g Q mask words
+  pub turns : Turns second f l h f₂ l₂ h₂ f' l' h' f₂' l₂' h₂' o W R N g Q a
   pub fits : PlaceFits W R N o a
 
 -- one piece: its entry in the output, the tally and the tables after it
-pub record PieceLaid (f l h f₂ l₂ h₂ f' l' h' f₂' l₂' h₂' out out' o : List ℕ) (W R N Q mask words : ℕ) (t t' : Tally) : Type 0 where
+pub record PieceLaid (f l h f₂ l₂ h₂ f' l' h' f₂' l₂' h₂' out out' o : List ℕ) (W R N g Q mask words : ℕ) (t t' : Tally) : Type 0 where
   pub turns :
-      Turns (t .second) f l h f₂ l₂ h₂ f' l' h' f₂' l₂' h₂' o W R N Q (answerBy (t .second) f l h f₂ l₂ h₂ o W R N Q mask words)
+      Turns (t .second) f l h f₂ l₂ h₂ f' l' h' f₂' l₂' h₂' o W R N g Q (answerBy (t .second) f l h f₂ l₂ h₂ o W R N g Q mask words)
   pub output :
       out' ≡
-      sets out (4 * (t .ordinal - 1)) (fateWords (fateOf (answerBy (t .second) f l h f₂ l₂ h₂ o W R N Q mask words)))
+      sets out (4 * (t .ordinal - 1)) (fateWords (fateOf (answerBy (t .second) f l h f₂ l₂ h₂ o W R N g Q mask words)))
   pub tally :
-      let a = answerBy (t .second) f l h f₂ l₂ h₂ o W R N Q mask words in
+      let a = answerBy (t .second) f l h f₂ l₂ h₂ o W R N g Q mask words in
       t' ≡ tallied t a (endOf R o a) N
-  pub end : endOf R o (answerBy (t .second) f l h f₂ l₂ h₂ o W R N Q mask words) ≤ N
+  pub end : endOf R o (answerBy (t .second) f l h f₂ l₂ h₂ o W R N g Q mask words) ≤ N

@@ -21,6 +21,7 @@ use search::Way;
 // Places the outline on the current table, where no free position ends before column `lower`; the other one has it entered then.
 fn place_current(
     g: Figures,
+    gap: u16,
     q: usize,
     second: bool,
     first: &mut [u16],
@@ -34,17 +35,18 @@ fn place_current(
     lower: usize,
     work: &mut [u16],
 ) -> Placing
-    requires { ⌜ Boards second (now first) (now lows) (now highs) (now first2) (now lows2) (now highs2) (g .width) (g .resolution) (g .columns) q ⌝
+    requires { ⌜ Boards second (now first) (now lows) (now highs) (now first2) (now lows2) (now highs2) (g .width) (g .resolution) (g .columns) gap q ⌝
         ∗ ⌜ Ordered (now o) (q9b mask) mask ⌝
-        ∗ ⌜ NoneBefore (g .width) (g .resolution) (g .columns)
+        ∗ ⌜ NoneBefore (g .width) (g .resolution) (g .columns) gap
         (heldBy second (now first) (now lows) (now highs) (now first2) (now lows2) (now highs2) (g .columns)) (now o) mask lower ⌝ }
     ensures { λ a. ⌜ PlacedBy second (now (first .entry)) (now (lows .entry)) (now (highs .entry)) (now (first2 .entry)) (now (lows2 .entry)) (now (highs2 .entry))
         (now (first .exit)) (now (lows .exit)) (now (highs .exit)) (now (first2 .exit)) (now (lows2 .exit)) (now (highs2 .exit))
-        (now (o .entry)) (g .width) (g .resolution) (g .columns) q mask (length (now (work .entry))) a ⌝ }
+        (now (o .entry)) (g .width) (g .resolution) (g .columns) gap q mask (length (now (work .entry))) a ⌝ }
 {
     if second {
         position::place_asked(
             g,
+            gap,
             q,
             first2,
             lows2,
@@ -61,6 +63,7 @@ fn place_current(
     } else {
         position::place_asked(
             g,
+            gap,
             q,
             first,
             lows,
@@ -80,6 +83,7 @@ fn place_current(
 // Places the outline, and puts its entry.
 fn lay_outline(
     g: Figures,
+    gap: u16,
     q: usize,
     t: Tally,
     first: &mut [u16],
@@ -94,16 +98,17 @@ fn lay_outline(
     out: &mut [u16],
     work: &mut [u16],
 ) -> Tally
-    requires { ⌜ Boards (t .second) (now first) (now lows) (now highs) (now first2) (now lows2) (now highs2) (g .width) (g .resolution) (g .columns) q ⌝
+    requires { ⌜ Boards (t .second) (now first) (now lows) (now highs) (now first2) (now lows2) (now highs2) (g .width) (g .resolution) (g .columns) gap q ⌝
         ∗ ⌜ Ordered (now o) (q9b mask) mask ⌝ ∗ ⌜ Few t ⌝ ∗ ⌜ 4 * t .ordinal ≤ length (now out) ⌝
-        ∗ ⌜ NoneBefore (g .width) (g .resolution) (g .columns)
+        ∗ ⌜ NoneBefore (g .width) (g .resolution) (g .columns) gap
         (heldBy (t .second) (now first) (now lows) (now highs) (now first2) (now lows2) (now highs2) (g .columns)) (now o) mask lower ⌝ }
     ensures { λ r. ⌜ PieceLaid (now (first .entry)) (now (lows .entry)) (now (highs .entry)) (now (first2 .entry)) (now (lows2 .entry)) (now (highs2 .entry))
         (now (first .exit)) (now (lows .exit)) (now (highs .exit)) (now (first2 .exit)) (now (lows2 .exit)) (now (highs2 .exit))
-        (now (out .entry)) (now (out .exit)) (now (o .entry)) (g .width) (g .resolution) (g .columns) q mask (length (now (work .entry))) t r ⌝ }
+        (now (out .entry)) (now (out .exit)) (now (o .entry)) (g .width) (g .resolution) (g .columns) gap q mask (length (now (work .entry))) t r ⌝ }
 {
     let a = place_current(
         g,
+        gap,
         q,
         t.second,
         first,
@@ -135,6 +140,7 @@ pub fn lay_piece(
     at: usize,
     lower: usize,
     g: Figures,
+    gap: u16,
     q: usize,
     t: Tally,
     first: &mut [u16],
@@ -147,14 +153,14 @@ pub fn lay_piece(
     work: &mut [u16],
 ) -> Tally
     requires { ⌜ PieceAt (now sheet) v at ⌝ ∗ ⌜ sheetPieceNo (now sheet) at ≡ 0 ⌝
-        ∗ ⌜ Boards (t .second) (now first) (now lows) (now highs) (now first2) (now lows2) (now highs2) (g .width) (g .resolution) (g .columns) q ⌝
+        ∗ ⌜ Boards (t .second) (now first) (now lows) (now highs) (now first2) (now lows2) (now highs2) (g .width) (g .resolution) (g .columns) gap q ⌝
         ∗ ⌜ Few t × (4 * t .ordinal ≤ length (now out)) ⌝
-        ∗ ⌜ NoneBefore (g .width) (g .resolution) (g .columns)
+        ∗ ⌜ NoneBefore (g .width) (g .resolution) (g .columns) gap
         (heldBy (t .second) (now first) (now lows) (now highs) (now first2) (now lows2) (now highs2) (g .columns))
         (pieceOf (now sheet) at .outline) (pieceOf (now sheet) at .mask) lower ⌝ }
     ensures { λ r. ⌜ PieceLaid (now (first .entry)) (now (lows .entry)) (now (highs .entry)) (now (first2 .entry)) (now (lows2 .entry)) (now (highs2 .entry))
         (now (first .exit)) (now (lows .exit)) (now (highs .exit)) (now (first2 .exit)) (now (lows2 .exit)) (now (highs2 .exit))
-        (now (out .entry)) (now (out .exit)) (pieceOf (now (sheet .entry)) at .outline) (g .width) (g .resolution) (g .columns) q
+        (now (out .entry)) (now (out .exit)) (pieceOf (now (sheet .entry)) at .outline) (g .width) (g .resolution) (g .columns) gap q
         (pieceOf (now (sheet .entry)) at .mask) (length (now (work .entry))) t r ⌝ }
 {
     let piece = reader::visit(sheet, v + at);
@@ -164,6 +170,7 @@ pub fn lay_piece(
             let e = 2 * n;
             lay_outline(
                 g,
+                gap,
                 q,
                 t,
                 first,

@@ -10,6 +10,7 @@ use search::Way;
 // after it.
 pub fn place_on(
     g: Figures,
+    gap: u16,
     q: usize,
     first: &[u16],
     lows: &[u16],
@@ -22,8 +23,8 @@ pub fn place_on(
     lows2: &mut [u16],
     highs2: &mut [u16],
 ) -> Placing
-    requires { ⌜ Tabled (now first) (now lows) (now highs) (now first2) (now lows2) (now highs2) (g .width) (g .resolution) (g .columns) q ⌝ }
-    ensures { λ a. ⌜ PlacedOn (now (first .entry)) (now (lows .entry)) (now (highs .entry)) (now (first2 .exit)) (now (lows2 .exit)) (now (highs2 .exit)) (now (o .entry)) (g .width) (g .resolution) (g .columns) q mask (length (now (work .entry))) a ⌝ }
+    requires { ⌜ Tabled (now first) (now lows) (now highs) (now first2) (now lows2) (now highs2) (g .width) (g .resolution) (g .columns) gap q ⌝ }
+    ensures { λ a. ⌜ PlacedOn (now (first .entry)) (now (lows .entry)) (now (highs .entry)) (now (first2 .exit)) (now (lows2 .exit)) (now (highs2 .exit)) (now (o .entry)) (g .width) (g .resolution) (g .columns) gap q mask (length (now (work .entry))) a ⌝ }
 {
     let ninth = checks::nine(mask);
     let no = asked::order_no(o, ninth, mask);
@@ -32,6 +33,7 @@ pub fn place_on(
     }
     position::place_asked(
         g,
+        gap,
         q,
         first,
         lows,

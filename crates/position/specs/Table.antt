@@ -18,8 +18,9 @@ use Rattle.outline.specs.Vertex.{Lent, BoundsOf}
 use Rattle.tables.specs.Flat.{Laid, tableOf}
 
 -- a table of a strip with Q records, and room for the next one
-pub record Tabled (f l h f' l' h' : List ℕ) (W R N Q : ℕ) : Type 0 where
+pub record Tabled (f l h f' l' h' : List ℕ) (W R N g Q : ℕ) : Type 0 where
   pub limits : Limits W R N
+  pub gap : g ≤ 400
   pub records : Q ≤ 16000
   pub count : ℕ
   pub table : Laid f l h W N count
@@ -28,32 +29,32 @@ pub record Tabled (f l h f' l' h' : List ℕ) (W R N Q : ℕ) : Type 0 where
   pub highs : 24001 ≤ length h'
 
 -- the next table, where a piece is placed at p, which is on the strip
-pub record Next (f l h f' l' h' o : List ℕ) (W R N Q : ℕ) (p : Position) : Type 0 where
+pub record Next (f l h f' l' h' o : List ℕ) (W R N g Q : ℕ) (p : Position) : Type 0 where
   pub count : ℕ
   pub laid : Laid f' l' h' W N count
   pub few : count ≤ Q
-  pub is : tableOf f' l' h' N ≡ entered W R (tableOf f l h N) o p
+  pub is : tableOf f' l' h' N ≡ entered W R g (tableOf f l h N) o p
   pub turn : p .turn ≤ 3
   pub on-strip : OnStrip W R N o p
 
-abbrev pub NextIf : (f l h f' l' h' o : List ℕ) (W R N Q : ℕ) → Placing → Type 0
-NextIf f l h f' l' h' o W R N Q (Placed p) = Next f l h f' l' h' o W R N Q p
-NextIf f l h f' l' h' o W R N Q (Refused r) = Unit {0}
+abbrev pub NextIf : (f l h f' l' h' o : List ℕ) (W R N g Q : ℕ) → Placing → Type 0
+NextIf f l h f' l' h' o W R N g Q (Placed p) = Next f l h f' l' h' o W R N g Q p
+NextIf f l h f' l' h' o W R N g Q (Refused r) = Unit {0}
 
 -- an outline with a position on the strip, and a work buffer with room for the runs of its turn
-pub record Enterable (f l h o : List ℕ) (W R N left right foot head words : ℕ) (p : Position) : Type 0 where
+pub record Enterable (f l h o : List ℕ) (W R N g left right foot head words : ℕ) (p : Position) : Type 0 where
   pub lent : Lent o
   pub bounds : BoundsOf o left right foot head
   pub turn : p .turn ≤ 3
   pub keeps : KeepsOrder (turned o (p .turn))
   pub on-strip : OnStrip W R N o p
-  pub room : 3 * countRuns (pieceRuns o (p .turn) R) ≤ words
+  pub room : 3 * countRuns (pieceRuns o (p .turn) R g) ≤ words
 
 -- question 14 of a position, and the next table
-pub record EntersAt (f l h f' l' h' o : List ℕ) (W R N Q : ℕ) (p : Position) (a : Placing) : Type 0 where
-  pub answer : a ≡ (ask (q14b W R Q (tableOf f l h N) o p) (Refused (refusal 14 1)) λ _. Placed p)
-  pub next : NextIf f l h f' l' h' o W R N Q a
+pub record EntersAt (f l h f' l' h' o : List ℕ) (W R N g Q : ℕ) (p : Position) (a : Placing) : Type 0 where
+  pub answer : a ≡ (ask (q14b W R g Q (tableOf f l h N) o p) (Refused (refusal 14 1)) λ _. Placed p)
+  pub next : NextIf f l h f' l' h' o W R N g Q a
 
-pub record PlacedOn (f l h f' l' h' o : List ℕ) (W R N Q mask words : ℕ) (a : Placing) : Type 0 where
-  pub answer : a ≡ placeOn W R N Q (tableOf f l h N) o mask words
-  pub next : NextIf f l h f' l' h' o W R N Q a
+pub record PlacedOn (f l h f' l' h' o : List ℕ) (W R N g Q mask words : ℕ) (a : Placing) : Type 0 where
+  pub answer : a ≡ placeOn W R N g Q (tableOf f l h N) o mask words
+  pub next : NextIf f l h f' l' h' o W R N g Q a

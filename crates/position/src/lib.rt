@@ -38,22 +38,31 @@ pub fn refused(number: u16, ordinal: u16) -> Placing
 }
 
 // The runs of turn t stand in the work buffer, where they were put last, or are put there. Answers how many they are.
-fn stand_runs(o: &[u16], b: Bounds, t: u16, r: u16, s: Standing, work: &mut [u16]) -> usize
+fn stand_runs(
+    o: &[u16],
+    b: Bounds,
+    t: u16,
+    r: u16,
+    gap: u16,
+    s: Standing,
+    work: &mut [u16],
+) -> usize
     requires { ⌜ Lent (now o) ⌝ ∗ ⌜ BoundsOf (now o) (b .left) (b .right) (b .foot) (b .head) ⌝
-        ∗ ⌜ (t ≤ 3) × (3 * countRuns (pieceRuns (now o) t r) ≤ length (now work)) ⌝ ∗ ⌜ KeepsOrder (turned (now o) t) ⌝
-        ∗ ⌜ Resolution r × Kept (now o) r (now work) (s .turn) (s .runs) ⌝ }
-    ensures { λ k. ⌜ Stands (pieceRuns (now (o .entry)) t r) (now (work .exit)) k ⌝ }
+        ∗ ⌜ (t ≤ 3) × (3 * countRuns (pieceRuns (now o) t r gap) ≤ length (now work)) ⌝ ∗ ⌜ KeepsOrder (turned (now o) t) ⌝
+        ∗ ⌜ Resolution r × (gap ≤ 400) × Kept (now o) r gap (now work) (s .turn) (s .runs) ⌝ }
+    ensures { λ k. ⌜ Stands (pieceRuns (now (o .entry)) t r gap) (now (work .exit)) k ⌝ }
 {
     if s.turn == t {
         return s.runs;
     }
     let e = outline::extent_of(o, b, t);
-    cells::put_runs(o, b, t, r, e.w, work)
+    cells::put_runs(o, b, t, r, gap, e.w, work)
 }
 
 // Question 14 of position p; the next table has the piece entered there.
 pub fn enter_at(
     g: Figures,
+    gap: u16,
     q: usize,
     first: &[u16],
     lows: &[u16],
@@ -67,12 +76,12 @@ pub fn enter_at(
     lows2: &mut [u16],
     highs2: &mut [u16],
 ) -> Placing
-    requires { ⌜ Tabled (now first) (now lows) (now highs) (now first2) (now lows2) (now highs2) (g .width) (g .resolution) (g .columns) q ⌝
-        ∗ ⌜ Enterable (now first) (now lows) (now highs) (now o) (g .width) (g .resolution) (g .columns) (b .left) (b .right) (b .foot) (b .head) (length (now work)) p ⌝
-        ∗ ⌜ Kept (now o) (g .resolution) (now work) (s .turn) (s .runs) ⌝ }
-    ensures { λ a. ⌜ EntersAt (now (first .entry)) (now (lows .entry)) (now (highs .entry)) (now (first2 .exit)) (now (lows2 .exit)) (now (highs2 .exit)) (now (o .entry)) (g .width) (g .resolution) (g .columns) q p a ⌝ }
+    requires { ⌜ Tabled (now first) (now lows) (now highs) (now first2) (now lows2) (now highs2) (g .width) (g .resolution) (g .columns) gap q ⌝
+        ∗ ⌜ Enterable (now first) (now lows) (now highs) (now o) (g .width) (g .resolution) (g .columns) gap (b .left) (b .right) (b .foot) (b .head) (length (now work)) p ⌝
+        ∗ ⌜ Kept (now o) (g .resolution) gap (now work) (s .turn) (s .runs) ⌝ }
+    ensures { λ a. ⌜ EntersAt (now (first .entry)) (now (lows .entry)) (now (highs .entry)) (now (first2 .exit)) (now (lows2 .exit)) (now (highs2 .exit)) (now (o .entry)) (g .width) (g .resolution) (g .columns) gap q p a ⌝ }
 {
-    let k = stand_runs(o, b, p.turn, g.resolution, s, work);
+    let k = stand_runs(o, b, p.turn, g.resolution, gap, s, work);
     let at = columnentry::Entry {
         columns: g.columns as usize,
         width: g.width,
@@ -91,6 +100,7 @@ pub fn enter_at(
 // before column `lower`; where the piece is placed, the next table holds them after it.
 pub fn place_asked(
     g: Figures,
+    gap: u16,
     q: usize,
     first: &[u16],
     lows: &[u16],
@@ -104,14 +114,14 @@ pub fn place_asked(
     lows2: &mut [u16],
     highs2: &mut [u16],
 ) -> Placing
-    requires { ⌜ Tabled (now first) (now lows) (now highs) (now first2) (now lows2) (now highs2) (g .width) (g .resolution) (g .columns) q ⌝
+    requires { ⌜ Tabled (now first) (now lows) (now highs) (now first2) (now lows2) (now highs2) (g .width) (g .resolution) (g .columns) gap q ⌝
         ∗ ⌜ Ordered (now o) (q9b mask) mask ⌝
-        ∗ ⌜ NoneBefore (g .width) (g .resolution) (g .columns) (tableOf (now first) (now lows) (now highs) (g .columns)) (now o) mask lower ⌝ }
-    ensures { λ a. ⌜ PlacedOn (now (first .entry)) (now (lows .entry)) (now (highs .entry)) (now (first2 .exit)) (now (lows2 .exit)) (now (highs2 .exit)) (now (o .entry)) (g .width) (g .resolution) (g .columns) q mask (length (now (work .entry))) a ⌝ }
+        ∗ ⌜ NoneBefore (g .width) (g .resolution) (g .columns) gap (tableOf (now first) (now lows) (now highs) (g .columns)) (now o) mask lower ⌝ }
+    ensures { λ a. ⌜ PlacedOn (now (first .entry)) (now (lows .entry)) (now (highs .entry)) (now (first2 .exit)) (now (lows2 .exit)) (now (highs2 .exit)) (now (o .entry)) (g .width) (g .resolution) (g .columns) gap q mask (length (now (work .entry))) a ⌝ }
 {
     let room = work.len() / 3;
     let b = outline::bounds_of(o);
-    let s = best::best_turn(g, first, lows, highs, o, b, mask, way, lower, work);
+    let s = best::best_turn(g, gap, first, lows, highs, o, b, mask, way, lower, work);
     if s.most == 0 {
         return refused(11, 1);
     }
@@ -123,6 +133,7 @@ pub fn place_asked(
     match c {
         Choice::Chosen(r) => enter_at(
             g,
+            gap,
             q,
             first,
             lows,

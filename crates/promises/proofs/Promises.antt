@@ -14,6 +14,7 @@ use Rattle.claims.proofs.LayList.{lay-demand3}
 use Rattle.claims.proofs.Wrong.{wrong-lists}
 use Rattle.claims.proofs.Choice.{only-numbers-open}
 use Rattle.claims.proofs.AnyNumbers.{any-numbers}
+use Rattle.former.proofs.List.{no-gap-is-former}
 use Rattle.knife.proofs.Safe.{knife-safe, list-knife-safe, lay-knife-safe}
 use Rattle.knife.proofs.Retraced.{retrace-asks}
 use Rattle.pathclaims.proofs.Paths.{paths}
@@ -37,6 +38,7 @@ promises =
       place-list = place-demand3-holds;
       follows = places-follow;
       job = lay-demand3;
+      no-gap = no-gap-is-former;
       ask-and-commit = place-is-ask-and-commit;
       asked-commit = commit-as-asked;
       wrong = wrong-lists;

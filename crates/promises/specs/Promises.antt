@@ -21,6 +21,7 @@ use Rattle.claims.specs.Asking.{Place-is-ask-and-commit, Commit-as-asked}
 use Rattle.claims.specs.Laying.{Lay-demand3}
 use Rattle.claims.specs.Wrong.{WrongLists}
 use Rattle.claims.specs.Choice.{OnlyNumbersOpen, AnyNumbers}
+use Rattle.former.specs.List.{NoGap}
 use Rattle.knife.specs.Safe.{Knife-safe, List-knife-safe, Lay-knife-safe}
 use Rattle.knife.specs.Retraced.{Retrace-asks}
 use Rattle.pathclaims.specs.Paths.{Paths}
@@ -34,21 +35,24 @@ pub record Promises : Type 1 where
   pub no-choice : One-answer
   -- A refusal leaves strip and output as they were, a work buffer is zero after each call, what is past an output stays.
   pub buffers : Demand1
-  -- 11 does not depend on turn and resolution, and no outline needs more than 1,536,000 words of work (12).
+  -- 11 does not depend on turn and resolution, and with no gap no outline needs more than 1,536,000 words of work (12).
   pub same-11 :
       (o : List ℕ) → Question7 o → (mask mask' R R' : ℕ) → Question9 mask → Question9 mask' → 1 ≤ R → 1 ≤ R' →
       Question11 o mask R ↔ Question11 o mask' R'
-  pub enough : (o : List ℕ) (mask R : ℕ) → Question7 o → Question8 o → Question10 o mask → 1 ≤ R → Question12 o mask R 1536000
-  -- Demand 2. Cover gives the cells that hold a point inside; sheets read back. What a strip holds is in demand 3, and for one place
-  -- or commit call on any strip in `numbers` (place-alone, commit-alone).
+  pub enough : (o : List ℕ) (mask R : ℕ) → Question7 o → Question8 o → Question10 o mask → 1 ≤ R → Question12 o mask R 0 1536000
+  -- Demand 2. Cover gives the cells that hold a point inside, and with a gap those of S-4; sheets read back. What a strip holds is in
+  -- demand 3, and for one place or commit call on any strip in `numbers` (place-alone, commit-alone).
   pub cells : Demand2-cells
   pub sheets : Demand2-sheets
   pub sheets-again : Demand2-again
   -- Demand 3, of every list of place, ask and commit calls; so, in document 01's own words, of place calls alone, and of every laid job.
+  -- S-4's "Two points inside different pieces must then differ by at least g in x or in y" is points-apart in `list`.
   pub list : Demand3-holds
   pub place-list : PlaceDemand3-holds
   pub follows : Places-follow
   pub job : Lay-demand3
+  -- "With g = 0 every position is the former one.": of one outline, and of every list of calls.
+  pub no-gap : NoGap
   -- Place is ask and then commit at its answer; a commit at an ask's answer is granted, if its work buffer is no shorter.
   pub ask-and-commit : Place-is-ask-and-commit
   pub asked-commit : Commit-as-asked

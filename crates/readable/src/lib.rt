@@ -1,4 +1,5 @@
-// The text of a sheet: a line `strip W R N`, then for each piece a line `piece MASK x,y x,y x,y ..`, in units.
+// The text of a sheet: a line `strip W R N`, then for each piece a line `piece MASK x,y x,y x,y ..`, in units. A gap that stands in front
+// of the sheet comes after the strip, as it stands there, in millimetres.
 
 ghost use Prim.Native.Nat.{_+_, _*_, _≤_, _<_};
 ghost use lib.ListN.{length};
@@ -98,21 +99,22 @@ fn put_pieces(out: &mut [u8], at: usize, list: &[u16]) -> usize
 }
 
 // The text of a cut list.
-fn put_list(out: &mut [u8], f: Figures, list: &[u16]) -> usize
+fn put_list(out: &mut [u8], f: Figures, gap: u16, list: &[u16]) -> usize
     requires { ⌜ 1 ≤ length (now list) ⌝ ∗ ⌜ 128 ≤ length (now out) ⌝ }
     ensures { λ r. ⌜ r ≤ length (now (out .exit)) ⌝ }
 {
     let a = print::put_words(out, 0, b"strip", &[f.width, f.resolution, f.columns]);
     let b = print::end_line(out, a);
-    put_pieces(out, b, list)
+    let c = gapline::put_gap(out, b, gap);
+    put_pieces(out, c, list)
 }
 
-fn show_lent(sheet: &[u8], list: &mut [u16], out: &mut [u8]) -> usize
+fn show_lent(sheet: &[u8], gap: u16, list: &mut [u16], out: &mut [u8]) -> usize
     requires { ⌜ 1 ≤ length (now list) ⌝ ∗ ⌜ 128 ≤ length (now out) ⌝ }
     ensures { λ r. ⌜ r ≤ length (now (out .exit)) ⌝ }
 {
     match reads::read(sheet, list) {
-        Reading::Read(f) => put_list(out, f, list),
+        Reading::Read(f) => put_list(out, f, gap, list),
         Reading::Refused(r) => {
             let a = print::put_refusal(out, r);
             print::end_line(out, a)
@@ -121,12 +123,14 @@ fn show_lent(sheet: &[u8], list: &mut [u16], out: &mut [u8]) -> usize
 }
 
 // What program `show` prints for this standard input, at the start of the output. Answers the number of its bytes.
-pub fn show_text(sheet: &[u8], out: &mut [u8]) -> usize
+pub fn show_text(input: &[u8], out: &mut [u8]) -> usize
     ensures { λ r. ⌜ r ≤ length (now (out .exit)) ⌝ }
 {
     if out.len() < print::MESSAGE_ROOM {
         return 0;
     }
     let mut list = [0u16; numbers::LIST_WORDS];
-    show_lent(sheet, &mut list, out)
+    let f = gapline::front_of(input);
+    let from = f.sheet;
+    show_lent(&input[from..], f.gap, &mut list, out)
 }

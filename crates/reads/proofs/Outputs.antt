@@ -86,35 +86,39 @@ pieces-room s v e h =
 
 -- the first "no"
 
-pub no-1 : {b : List ℕ} (fourth : Bool) → q1b b ≡ false → JobRefused b fourth 1 0
+pub no-1 : {b : List ℕ} (gap fourth : Bool) → q1b b ≡ false → JobRefused b gap fourth 1 0
 unfolding sheetNo
-no-1 fourth e = record { is = rw e }
+no-1 gap fourth e = record { is = rw e }
 
-pub no-2 : {b : List ℕ} (fourth : Bool) → q1b b ≡ true → q2b b ≡ false → JobRefused b fourth 2 0
+pub no-2 : {b : List ℕ} (gap fourth : Bool) → q1b b ≡ true → q2b b ≡ false → JobRefused b gap fourth 2 0
 unfolding sheetNo
-no-2 fourth e f = record { is = rw (e, f) }
+no-2 gap fourth e f = record { is = rw (e, f) }
 
-pub no-limits : {b : List ℕ} {n : ℕ} (fourth : Bool) → q1b b ≡ true → q2b b ≡ true → limitsNo (sheetW b) (sheetR b) (sheetN b) ≡ n → 0 < n →
-    JobRefused b fourth n 0
+pub no-limits : {b : List ℕ} {n : ℕ} (gap fourth : Bool) → q1b b ≡ true → q2b b ≡ true → limitsNo (sheetW b) (sheetR b) (sheetN b) ≡ n → 0 < n →
+    JobRefused b gap fourth n 0
 unfolding sheetNo
-no-limits {n = n} fourth e f g h = record { is = rw (e, f, g, pos-not-zero n h) }
+no-limits {n = n} gap fourth e f g h = record { is = rw (e, f, g, pos-not-zero n h) }
 
-pub no-4 : {b : List ℕ} {fourth : Bool} → Begun b → fourth ≡ false → JobRefused b fourth 4 0
+pub no-21 : {b : List ℕ} {gap : Bool} (fourth : Bool) → Begun b → gap ≡ false → JobRefused b gap fourth 21 0
 unfolding sheetNo
-no-4 s e = record { is = rw (s .one, s .two, s .limits, e) }
+no-21 fourth s e = record { is = rw (s .one, s .two, s .limits, e) }
 
-pub no-6 : {b : List ℕ} → Begun b → PiecesIll b → JobRefused b true 6 0
+pub no-4 : {b : List ℕ} {gap fourth : Bool} → Begun b → gap ≡ true → fourth ≡ false → JobRefused b gap fourth 4 0
+unfolding sheetNo
+no-4 s e f = record { is = rw (s .one, s .two, s .limits, e, f) }
+
+pub no-6 : {b : List ℕ} → Begun b → PiecesIll b → JobRefused b true true 6 0
 unfolding sheetNo
 no-6 s i = record { is = rw (s .one, s .two, s .limits, i .fails) }
 
-pieces-no : {b : List ℕ} {count : ℕ} → Counted b count → sheetNo b true ≡ firstNo (sheetPieceNo b) 1 (pieceRecords b)
+pieces-no : {b : List ℕ} {count : ℕ} → Counted b count → sheetNo b true true ≡ firstNo (sheetPieceNo b) 1 (pieceRecords b)
 unfolding sheetNo
 pieces-no s = rw (s .begun .one, s .begun .two, s .begun .limits, s .six)
 
-pub no-piece : {b : List ℕ} {count n k : ℕ} → Counted b count → FirstRefused b n k → JobRefused b true n k
+pub no-piece : {b : List ℕ} {count n k : ℕ} → Counted b count → FirstRefused b n k → JobRefused b true true n k
 no-piece s f = record { is = pieces-no s ∙ f .is }
 
-pub no-none : {b : List ℕ} {count : ℕ} → Passed b count → sheetNo b true ≡ none
+pub no-none : {b : List ℕ} {count : ℕ} → Passed b count → sheetNo b true true ≡ none
 no-none s = pieces-no (s .counted) ∙ s .none-no .is
 
 -- the answer to 4, from the figures that were read
@@ -124,7 +128,7 @@ four-is b strip e h k = ap (λ (f : Figures). fourthOf strip (f .columns)) (sym 
 
 -- the step
 
-pub refused-step : {b out out' : List ℕ} {a : Reading} {n k : ℕ} → a ≡ NotRead (refusal n k) → JobRefused b true n k →
+pub refused-step : {b out out' : List ℕ} {a : Reading} {n k : ℕ} → a ≡ NotRead (refusal n k) → JobRefused b true true n k →
     out' ≡ out → ReadStep b out a out'
 unfolding readAnswer readOutput
 refused-step {b} {out} e f g =

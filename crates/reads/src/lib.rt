@@ -7,7 +7,7 @@ ghost use lib.ListN.{length};
 ghost use Rattle.defs.specs.Meaning.Sheet.{sheetN};
 ghost use Rattle.defs.specs.Computing.Sheets.{ReadStep};
 ghost use Rattle.sheets.proofs.Answers.{figuresOf};
-ghost use Rattle.reads.specs.Steps.{Begun, Counted, Passed, fourthOf, JobAsked};
+ghost use Rattle.reads.specs.Steps.{Begun, Counted, Passed, gapOf, fourthOf, JobAsked};
 use defs::Figures;
 use defs::Reading;
 use defs::Refusal;
@@ -35,10 +35,20 @@ pub fn figures_of(sheet: &[u8]) -> Figures
     }
 }
 
-// The strip that is lent beside the sheet, if one is: its words.
+// The strip that is lent beside the sheet, if one is: the gap that it is to have, and its words.
 pub enum Strip {
     NotLent,
-    Words(usize),
+    Lent(u16, usize),
+}
+
+// Question 21, where a strip is lent.
+fn gap_asked(strip: Strip) -> bool
+    ensures { λ a. ⌜ a ≡ gapOf strip ⌝ }
+{
+    match strip {
+        Strip::NotLent => true,
+        Strip::Lent(gap, n) => limits::gap_fits(gap),
+    }
 }
 
 // Question 4, where a strip is lent.
@@ -47,7 +57,7 @@ fn fourth(strip: Strip, columns: u16) -> bool
 {
     match strip {
         Strip::NotLent => true,
-        Strip::Words(n) => limits::length_fits(columns, n),
+        Strip::Lent(gap, n) => limits::length_fits(columns, n),
     }
 }
 
@@ -60,7 +70,7 @@ pub enum Job {
 // Questions 7 to 11 of a sheet that passes those before.
 fn ask_pieces(sheet: &[u8], count: usize) -> Job
     requires { ⌜ Counted (now sheet) count ⌝ }
-    ensures { λ a. ⌜ JobAsked (now (sheet .entry)) true a ⌝ }
+    ensures { λ a. ⌜ JobAsked (now (sheet .entry)) true true a ⌝ }
 {
     let v = fields::number(sheet, fields::VERTICES) as usize;
     match pieceno::first_no(sheet, v) {
@@ -72,7 +82,7 @@ fn ask_pieces(sheet: &[u8], count: usize) -> Job
 // Questions 6 to 11 of a sheet that passes those before.
 fn ask_chain(sheet: &[u8]) -> Job
     requires { ⌜ Begun (now sheet) ⌝ }
-    ensures { λ a. ⌜ JobAsked (now (sheet .entry)) true a ⌝ }
+    ensures { λ a. ⌜ JobAsked (now (sheet .entry)) true true a ⌝ }
 {
     match records::piece_chain(sheet) {
         Chain::Whole(count) => ask_pieces(sheet, count),
@@ -80,9 +90,9 @@ fn ask_chain(sheet: &[u8]) -> Job
     }
 }
 
-// Questions 1 to 3, 16 and 17, 4 where a strip is lent, and 6 to 11.
+// Questions 1 to 3, 16 and 17, 21 and 4 where a strip is lent, and 6 to 11.
 pub fn ask(sheet: &[u8], strip: Strip) -> Job
-    ensures { λ a. ⌜ JobAsked (now (sheet .entry)) (fourthOf strip (sheetN (now (sheet .entry)))) a ⌝ }
+    ensures { λ a. ⌜ JobAsked (now (sheet .entry)) (gapOf strip) (fourthOf strip (sheetN (now (sheet .entry)))) a ⌝ }
 {
     if !fields::begins(sheet) {
         return Job::No(1, 0);
@@ -94,6 +104,9 @@ pub fn ask(sheet: &[u8], strip: Strip) -> Job
     let no = limits::limits_no(f.width, f.resolution, f.columns);
     if no != 0 {
         return Job::No(no, 0);
+    }
+    if !gap_asked(strip) {
+        return Job::No(21, 0);
     }
     if !fourth(strip, f.columns) {
         return Job::No(4, 0);

@@ -11,9 +11,9 @@ pub record FirstIn (f l h r : List ℕ) (N W p w t from to c y : ℕ) : Type 0 w
   pub at-least : from ≤ c
   pub below : c < to
   pub fits : c + w ≤ N
-  pub height : Least f l h r W p t c y
-  pub least : (b : ℕ) → from ≤ b → b < c → NoHeight f l h r W p t b
+  pub height : Least f l h r N W p t c y
+  pub least : (b : ℕ) → from ≤ b → b < c → NoHeight f l h r N W p t b
 
 abbrev pub SearchedIn : (f l h r : List ℕ) (N W p w t from to : ℕ) → Spot → Type 0
 SearchedIn f l h r N W p w t from to (Found c y) = FirstIn f l h r N W p w t from to c y
-SearchedIn f l h r N W p w t from to None = (c : ℕ) → from ≤ c → c < to → c + w ≤ N → NoHeight f l h r W p t c
+SearchedIn f l h r N W p w t from to None = (c : ℕ) → from ≤ c → c < to → c + w ≤ N → NoHeight f l h r N W p t c

@@ -11,6 +11,7 @@ pub fn lay_chain(
     sheet: &[u8],
     v: usize,
     g: Figures,
+    gap: u16,
     q: usize,
     first: &mut [u16],
     lows: &mut [u16],
@@ -21,10 +22,10 @@ pub fn lay_chain(
     out: &mut [u16],
     work: &mut [u16],
 ) -> Tally
-    requires { ⌜ JobReady (now sheet) v (now first) (now lows) (now highs) (now first2) (now lows2) (now highs2) (now out) (g .width) (g .resolution) (g .columns) q ⌝ }
+    requires { ⌜ JobReady (now sheet) v (now first) (now lows) (now highs) (now first2) (now lows2) (now highs2) (now out) (g .width) (g .resolution) (g .columns) gap q ⌝ }
     ensures { λ t. ⌜ JobLaid (now (sheet .entry)) (tableOf (now (first .entry)) (now (lows .entry)) (now (highs .entry)) (g .columns))
         (now (first .exit)) (now (lows .exit)) (now (highs .exit)) (now (first2 .exit)) (now (lows2 .exit)) (now (highs2 .exit))
-        (now (out .entry)) (now (out .exit)) (g .width) (g .resolution) (g .columns) q (length (now (work .entry))) t ⌝ }
+        (now (out .entry)) (now (out .exit)) (g .width) (g .resolution) (g .columns) gap q (length (now (work .entry))) t ⌝ }
 {
     let mut at = fields::number(sheet, fields::FIRST_PIECE) as usize;
     let mut last = at;
@@ -44,6 +45,7 @@ pub fn lay_chain(
             at,
             lower,
             g,
+            gap,
             q,
             t,
             first,

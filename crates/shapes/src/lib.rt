@@ -1,4 +1,4 @@
-// The placed pieces of a picture: outlines, what they draw twice, and ordinals.
+// The placed pieces of a picture: the gap around them, outlines, what they draw twice, and ordinals.
 
 ghost use mathlib.Core.Path.{_≡_};
 ghost use Prim.Native.Nat.{_+_, _*_, _≤_, _<_};
@@ -8,6 +8,7 @@ ghost use Rattle.shapes.specs.Points.{PointOf};
 use defs::Covering;
 use defs::Position;
 use defs::Retracing;
+use frame::Scene;
 use marks::Spot;
 use outline::Bounds;
 use outline::Side;
@@ -159,7 +160,7 @@ fn count_of(c: Covering) -> u32 {
 
 // The runs of a piece that is so long, in the columns in which it is looked at.
 fn cover(o: &[u16], turn: u16, long: u16, work: &mut [u16]) -> u32 {
-    count_of(cover::cover(o, turn, marks::part_of(long), work))
+    count_of(cover::cover(o, turn, marks::part_of(long), 0, work))
 }
 
 // The ordinal of a piece that is so long.
@@ -287,6 +288,62 @@ pub fn put_pieces(
         i += 1;
     }
     to
+}
+
+// The outline of a piece as a part of a path. What the outline draws twice has no gap, but its shade lies below all pieces.
+fn put_loop(out: &mut [u8], at: usize, o: &[u16], r: u16, p: Position, font: u32) -> usize
+    requires { ⌜ Lent (now o) ⌝ ∗ ⌜ p .turn ≤ 3 ⌝ }
+{
+    let b = outline::bounds_of(o);
+    let start = svg::fill(out, at, b"M", &[], 0);
+    let a = put_points(out, start, o, b, r, p, font);
+    svg::fill(out, a, b"Z", &[], 0)
+}
+
+// The same of a piece that is placed.
+fn put_round(out: &mut [u8], at: usize, o: &[u16], r: u16, p: Position, font: u32) -> usize {
+    if !checks::seven(o) {
+        return at;
+    }
+    if !checks::eight(o) {
+        return at;
+    }
+    if p.turn <= numbers::MOST_TURN {
+        return put_loop(out, at, o, r, p, font);
+    }
+    at
+}
+
+// The outlines of the placed pieces as parts of a path.
+fn put_rounds(
+    out: &mut [u8],
+    at: usize,
+    r: u16,
+    font: u32,
+    list: &[u16],
+    entries: &[u16],
+) -> usize {
+    let count = marks::word(list, 0);
+    let mut i: u16 = 0;
+    let mut from: usize = 1;
+    let mut to = at;
+    while i < count {
+        let o = listed::outline_at(list, from);
+        to = put_round(out, to, o, r, place_of(entries, i), font);
+        from += 2 + o.len();
+        i += 1;
+    }
+    to
+}
+
+// The gap around the placed pieces, if there is one: nothing of another piece lies in it.
+pub fn put_gap(out: &mut [u8], at: usize, s: Scene, list: &[u16], entries: &[u16]) -> usize {
+    if s.gap == 0 {
+        return at;
+    }
+    let a = frame::put_shade(out, at, s);
+    let b = put_rounds(out, a, s.resolution, s.font, list, entries);
+    put_line_end(out, b)
 }
 
 fn put_dashes(out: &mut [u8], at: usize) -> usize {

@@ -10,10 +10,18 @@ const INPUT: usize = 262145;
 
 const OUTPUT: usize = 65536;
 
+// The line of a gap, in front of the sheet.
+fn write_gap(gap: u16) {
+    let mut line = [0u8; gapline::ROOM];
+    let n = gapline::put_gap(&mut line, 0, gap);
+    io::write_all(STDOUT_FILENO, &line[..n]);
+}
+
 fn run(input: &mut [u8], output: &mut [u8], notes: &mut [u8]) {
     let n = io::read_full(STDIN_FILENO, input);
     match typed::sheet_of(&input[..n], output, notes) {
-        Made::Sheet(r, m) => {
+        Made::Sheet(r, m, gap) => {
+            write_gap(gap);
             io::write_all(STDOUT_FILENO, &output[..r]);
             io::write_all(STDERR_FILENO, &notes[..m]);
         }

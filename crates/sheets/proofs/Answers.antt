@@ -52,7 +52,7 @@ pub record ReadGranted (b : List ℕ) (words : ℕ) (f : Figures) : Type 0 where
 pub read-granted : (b : List ℕ) (words : ℕ) (f : Figures) → Read f ≡ readAnswer b words → ReadGranted b words f
 unfolding readAnswer
 read-granted b words f e =
-    let h = not-refused (sheetNo b true) (sym e) read-refused in
+    let h = not-refused (sheetNo b true true) (sym e) read-refused in
     let e15 = asked (leb (length (listWords (sheetPieces b))) words) _ (h .1) (read-refused (refusal 15 0)) in
     record {
       held = none-held b (h .0);
@@ -60,7 +60,7 @@ read-granted b words f e =
       figures = sym (same-figures (e15 .1));
     }
 
-pub read-grants : (b : List ℕ) (words : ℕ) → sheetNo b true ≡ none → length (listWords (sheetPieces b)) ≤ words →
+pub read-grants : (b : List ℕ) (words : ℕ) → sheetNo b true true ≡ none → length (listWords (sheetPieces b)) ≤ words →
     readAnswer b words ≡ Read (figuresOf b)
 unfolding readAnswer
 read-grants b words e l = passed NotRead e ∙ rw (le-leb (length (listWords (sheetPieces b))) words l)

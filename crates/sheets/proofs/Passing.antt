@@ -56,7 +56,7 @@ module _ {b : List ℕ} {ps : List Piece} (h : SheetHolds b ps) where
   unfolding q6b
   holds-6 = chain-ends mostPieces (h .q6 .chain) (h .q6 .most)
 
-  pub holds-none : Each (PiecePasses (sheetR b)) ps → sheetNo b true ≡ none
+  pub holds-none : Each (PiecePasses (sheetR b)) ps → sheetNo b true true ≡ none
   unfolding sheetNo
   holds-none s =
       rw (
@@ -104,7 +104,7 @@ pub record Held (b : List ℕ) : Type 0 where
   pub holds : SheetHolds b (sheetPieces b)
   pub passes : Each (PiecePasses (sheetR b)) (sheetPieces b)
 
-pub none-held : (b : List ℕ) → sheetNo b true ≡ none → Held b
+pub none-held : (b : List ℕ) → sheetNo b true true ≡ none → Held b
 unfolding sheetNo sheetPieces pieceRecords q6b
 none-held b e =
     let e1 = asked (q1b b) _ e some-none in

@@ -1,10 +1,7 @@
-// Program `show`: prints the sheet on standard input as text.
+// Program `show`: prints the sheet on standard input, with or without a gap in front of it, as text.
 
 use libc::STDIN_FILENO;
 use libc::STDOUT_FILENO;
-
-// One byte more than a sheet may have, so that longer input is noticed.
-const INPUT: usize = 65537;
 
 fn run(input: &mut [u8], output: &mut [u8]) {
     let n = io::read_full(STDIN_FILENO, input);
@@ -13,7 +10,7 @@ fn run(input: &mut [u8], output: &mut [u8]) {
 }
 
 fn main() {
-    let mut input = [0u8; INPUT];
+    let mut input = [0u8; gapline::INPUT];
     let mut output = [0u8; readable::TEXT_ROOM];
     run(&mut input, &mut output);
 }

@@ -13,7 +13,8 @@ use Rattle.defs.specs.Meaning.Cell.{Covered}
 use Rattle.geom.proofs.Parity.{count-same}
 use Rattle.geom.proofs.Column.{Met}
 use Rattle.geom.proofs.Cover.{S, H0, H1, W, S-spans, S-below, positive, in-order, even, cover, meet}
-use Rattle.slabs.specs.Slab.{Neat, Opens, InSlab, InUnits}
+use Rattle.geom.specs.Units.{InUnits}
+use Rattle.slabs.specs.Slab.{Neat, Opens, InSlab}
 use Rattle.slabs.proofs.Lines.{slab-line}
 use Rattle.slabs.proofs.Gap.{Open, met-open, open-met}
 use Rattle.slabs.proofs.Slab.{place, unit-slab, slab-unit}

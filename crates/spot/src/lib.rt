@@ -6,7 +6,8 @@ ghost use Rattle.spot.specs.Spot.{FreeThere, FitsThere};
 use tries::Tried;
 use walk::Search;
 
-// Whether the runs of the piece, moved to column c and height y, hold no occupied cell. Each run is tried there and not moved on.
+// Whether the runs of the piece, moved to column c and height y, hold no occupied cell; what goes past the last column or the top does not
+// count. Each run is tried there and not moved on.
 fn free_at(
     first: &[u16],
     lows: &[u16],
@@ -17,10 +18,11 @@ fn free_at(
     y: u16,
 ) -> bool
     requires { ⌜ Frame (now first) (now lows) (now highs) (now runs) (s .columns) (s .width) (s .runs) (s .wide) (s .tall) ⌝
-        ∗ ⌜ (c + s .wide ≤ s .columns) × (y + s .tall ≤ s .width) ⌝ }
-    ensures { λ a. ⌜ FreeThere (now (first .entry)) (now (lows .entry)) (now (highs .entry)) (now (runs .entry)) (s .runs) c y a ⌝ }
+        ∗ ⌜ (c + s .wide ≤ s .columns) × (y + s .tall ≤ s .width) × (s .width ≤ 16000) ⌝ }
+    ensures { λ a. ⌜ FreeThere (now (first .entry)) (now (lows .entry)) (now (highs .entry)) (now (runs .entry)) (s .columns) (s .runs) c y a ⌝ }
 {
-    let p = s.runs;
+    let n = s.columns;
+    let p = walk::runs_before(runs, s.runs, n - c);
     let mut k = 0;
     while k < p {
         let col = c + runs[3 * k] as usize;
@@ -48,7 +50,8 @@ pub fn fits_at(
     c: usize,
     y: u16,
 ) -> bool
-    requires { ⌜ Frame (now first) (now lows) (now highs) (now runs) (s .columns) (s .width) (s .runs) (s .wide) (s .tall) ⌝ }
+    requires { ⌜ Frame (now first) (now lows) (now highs) (now runs) (s .columns) (s .width) (s .runs) (s .wide) (s .tall) ⌝
+        ∗ ⌜ s .width ≤ 16000 ⌝ }
     ensures { λ a. ⌜ FitsThere (now (first .entry)) (now (lows .entry)) (now (highs .entry)) (now (runs .entry)) (s .columns) (s .width) (s .runs) (s .wide) (s .tall) c y a ⌝ }
 {
     if s.columns < s.wide {

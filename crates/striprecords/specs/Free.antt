@@ -3,7 +3,8 @@ use mathlib.Core.Path.{_≡_}
 use mathlib.Core.List.{List}
 use Prim.Native.Nat.{ℕ, _+_, _≤_, _<_}
 use lib.ListN.{length}
-use Rattle.defs.specs.Meaning.Strip.{Limits, Length, widthOf, resolutionOf, columnsOf, nextOf, IsFree}
+use Rattle.defs.specs.Meaning.Limits.{mostGap}
+use Rattle.defs.specs.Meaning.Strip.{Limits, Length, widthOf, resolutionOf, columnsOf, gapOf, nextOf, IsFree}
 use Rattle.striprecords.specs.declared.Shape.{Shape}
 
 -- Length and limits are kept, and g has W, N and Q.
@@ -11,6 +12,7 @@ pub record Sized (s : List ℕ) (g : Shape) : Type 0 where
   pub width : g .width ≡ widthOf s
   pub columns : g .columns ≡ columnsOf s
   pub limits : Limits (widthOf s) (resolutionOf s) (columnsOf s)
+  pub gap : gapOf s ≤ mostGap
   pub long : Length (columnsOf s) (g .records) (length s)
 
 -- Record r is free, and its next is r + 1.

@@ -29,7 +29,7 @@ pub fn word_of(s: &[u16], g: Shape, r: usize, i: usize) -> usize
     requires { ⌜ Sized (now s) g ⌝ ∗ ⌜ (r ≤ g .records) × (i ≤ 3) ⌝ }
     ensures { λ x. ⌜ x ≡ wordOf (now (s .entry)) r i ⌝ ∗ ⌜ x < 65536 ⌝ }
 {
-    word(s, limits::RECORD_WORDS * r + g.columns + i)
+    word(s, limits::RECORD_WORDS * r + g.columns + 1 + i)
 }
 
 // "A free record has column N, low and high 0."

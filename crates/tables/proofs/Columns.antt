@@ -28,7 +28,7 @@ entered-past-from W piece p k [] i h = refl
 entered-past-from W piece p k (b ∷ bs) zero h = absurd (omega arith)
 entered-past-from W piece p k (b ∷ bs) (suc i) h = entered-past-from W piece p (suc k) bs i (omega arith)
 
-pub entered-past : (W R : ℕ) (held : List (List Rows)) (o : List ℕ) (p : Position) (i : ℕ) →
-    length held ≤ i → getD (entered W R held o p) i [] ≡ []
+pub entered-past : (W R g : ℕ) (held : List (List Rows)) (o : List ℕ) (p : Position) (i : ℕ) →
+    length held ≤ i → getD (entered W R g held o p) i [] ≡ []
 unfolding entered
-entered-past W R held o p i h = entered-past-from W _ p 0 held i h
+entered-past W R g held o p i h = entered-past-from W _ p 0 held i h

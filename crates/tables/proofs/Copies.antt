@@ -28,15 +28,15 @@ use Rattle.tables.proofs.Entered.{entered-cells}
 use Rattle.tables.proofs.Searching.{best-found, none-found}
 
 -- no free position of the outline in an allowed turn ends before column `lower`
-pub record NoneBefore (W R N : ℕ) (held : List (List Rows)) (o : List ℕ) (mask lower : ℕ) : Type 0 where
-  pub none : (q : Position) → Fits W R N (In held) o mask q → lower ≤ endColumn R o q
+pub record NoneBefore (W R N g : ℕ) (held : List (List Rows)) (o : List ℕ) (mask lower : ℕ) : Type 0 where
+  pub none : (q : Position) → Fits W R N g (In held) o mask q → lower ≤ endColumn R o q
 
-pub none-before-0 : (W R N : ℕ) (held : List (List Rows)) (o : List ℕ) (mask : ℕ) → NoneBefore W R N held o mask 0
-none-before-0 W R N held o mask = record { none = λ q f. omega arith }
+pub none-before-0 : (W R N g : ℕ) (held : List (List Rows)) (o : List ℕ) (mask : ℕ) → NoneBefore W R N g held o mask 0
+none-before-0 W R N g held o mask = record { none = λ q f. omega arith }
 
 -- it stays so when more cells are held
-pub more-held : {W R N : ℕ} {held held' : List (List Rows)} {o : List ℕ} {mask lower : ℕ} →
-    ((i j : ℕ) → In held i j → In held' i j) → NoneBefore W R N held o mask lower → NoneBefore W R N held' o mask lower
+pub more-held : {W R N g : ℕ} {held held' : List (List Rows)} {o : List ℕ} {mask lower : ℕ} →
+    ((i j : ℕ) → In held i j → In held' i j) → NoneBefore W R N g held o mask lower → NoneBefore W R N g held' o mask lower
 unfolding Free
 more-held more h =
     record {
@@ -47,17 +47,17 @@ more-held more h =
     }
 
 -- a position of an allowed turn that ends before that column is not free
-pub not-free : {W R N : ℕ} {held : List (List Rows)} {o : List ℕ} {mask lower t : ℕ} → NoneBefore W R N held o mask lower → Allows mask t →
+pub not-free : {W R N g : ℕ} {held : List (List Rows)} {o : List ℕ} {mask lower t : ℕ} → NoneBefore W R N g held o mask lower → Allows mask t →
     KeepsOrder (turned o t) → 0 < sides o → 1 ≤ R → Table W N held → (c y : ℕ) → c + columnsFor (extentX o t) R < lower →
-    c + columnsFor (extentX o t) R ≤ N → y + extentY o t ≤ W → ¬ (freeb y (pieceRuns o t R) (dropN c held) ≡ true)
+    c + columnsFor (extentX o t) R ≤ N → y + extentY o t ≤ W → ¬ (freeb y (pieceRuns o t R g) (dropN c held) ≡ true)
 unfolding endColumn
-not-free {W} {R} {N} {held} {o} {mask} {lower} {t} h allows keeps some-side Rpos table c y before columns rows e =
+not-free {W} {R} {N} {g} {held} {o} {mask} {lower} {t} h allows keeps some-side Rpos table c y before columns rows e =
     let at-end =
     h .none (position t c y)
     (record {
       allowed = allows;
       on-strip = record { columns = columns; rows = rows };
-      free = free-decides W R N held o (position t c y) keeps some-side Rpos table .0 e;
+      free = free-decides W R N g held o (position t c y) keeps some-side Rpos table .0 e;
     }) in
     omega (arith, at-end)
 
@@ -71,7 +71,7 @@ not-13 true true true true false q = omega arith
 not-13 true true true true true q = omega arith
 
 -- the answer by its questions: a position that is placed is the best, and 13 says that there is none
-module _ (W R N Q : ℕ) (held : List (List Rows)) (o : List ℕ) (mask words : ℕ) where
+module _ (W R N g Q : ℕ) (held : List (List Rows)) (o : List ℕ) (mask words : ℕ) where
   outline-not-13 : ¬ (outlineNo o (q9b mask) mask R ≡ 13)
   unfolding outlineNo
   outline-not-13 = not-13 (q7b o) (q8b o) (q9b mask) (ordersb o mask) (q11b o mask R)
@@ -81,24 +81,24 @@ module _ (W R N Q : ℕ) (held : List (List Rows)) (o : List ℕ) (mask words : 
   Says x (Placed p) = x ≡ some p
   Says x (Refused r) = r .number ≡ 13 → x ≡ none
 
-  says : Says (bestBelow W R N held o mask 4) (placeOn W R N Q held o mask words)
+  says : Says (bestBelow W R N g held o mask 4) (placeOn W R N g Q held o mask words)
   unfolding placeOn choose
-  says = go (outlineNo o (q9b mask) mask R) outline-not-13 (q12b o mask R words) (bestBelow W R N held o mask 4)
+  says = go (outlineNo o (q9b mask) mask R) outline-not-13 (q12b o mask R g words) (bestBelow W R N g held o mask 4)
     where
       last : (p : Position) (b : Bool) → Says (some p) (ask b (Refused (refusal 14 1)) λ _. Placed p)
       last p true = refl
       last p false = λ e. absurd (omega arith)
 
       go : (n : ℕ) → ¬ (n ≡ 13) → (b : Bool) (x : Option Position) →
-          Says x (ask (eqb n 0) (Refused (refusal n 1)) λ _. ask b (Refused (refusal 12 1)) λ _. choose W R Q held o x)
+          Says x (ask (eqb n 0) (Refused (refusal n 1)) λ _. ask b (Refused (refusal 12 1)) λ _. choose W R g Q held o x)
       go zero n false x = λ e. absurd (omega arith)
       go zero n true none = λ e. refl
-      go zero n true (some p) = last p (q14b W R Q held o p)
+      go zero n true (some p) = last p (q14b W R g Q held o p)
       go (suc m) n b x = rw (eqb·suc-zero m) (λ e. absurd (n e))
 
   module _ (keeps : Question10 o mask) (some-side : 0 < sides o) (Rpos : 1 ≤ R) (table : Table W N held) where
     -- the best position ends before no other
-    first-end : (p : Position) → Best W R N (In held) o mask p → NoneBefore W R N held o mask (endColumn R o p)
+    first-end : (p : Position) → Best W R N g (In held) o mask p → NoneBefore W R N g held o mask (endColumn R o p)
     unfolding Later
     first-end p best =
         record {
@@ -110,18 +110,18 @@ module _ (W R N Q : ℕ) (held : List (List Rows)) (o : List ℕ) (mask words : 
         }
 
     -- a copy of a piece that is placed ends there or later
-    pub placed-before : (p : Position) → placeOn W R N Q held o mask words ≡ Placed p →
-        NoneBefore W R N (entered W R held o p) o mask (endColumn R o p)
+    pub placed-before : (p : Position) → placeOn W R N g Q held o mask words ≡ Placed p →
+        NoneBefore W R N g (entered W R g held o p) o mask (endColumn R o p)
     unfolding Question10
     placed-before p e =
-        let best = best-found W R N held o mask keeps some-side Rpos table p (subst (Says (bestBelow W R N held o mask 4)) e says) in
-        let cells = entered-cells W R N held o p (keeps (p .turn) (best .fits .allowed)) some-side Rpos table (best .fits .on-strip) in
+        let best = best-found W R N g held o mask keeps some-side Rpos table p (subst (Says (bestBelow W R N g held o mask 4)) e says) in
+        let cells = entered-cells W R N g held o p (keeps (p .turn) (best .fits .allowed)) some-side Rpos table in
         more-held (λ i j taken. cells i j .1 (inl taken)) (first-end p best)
 
     -- a copy of a piece that has no place has none either
-    pub refused-before : (r : Refusal) → placeOn W R N Q held o mask words ≡ Refused r → r .number ≡ 13 → (lower : ℕ) →
-        NoneBefore W R N held o mask lower
+    pub refused-before : (r : Refusal) → placeOn W R N g Q held o mask words ≡ Refused r → r .number ≡ 13 → (lower : ℕ) →
+        NoneBefore W R N g held o mask lower
     unfolding Question13
     refused-before r e thirteen lower =
-        let no-place = none-found W R N held o mask keeps some-side Rpos table (subst (Says (bestBelow W R N held o mask 4)) e says thirteen) in
+        let no-place = none-found W R N g held o mask keeps some-side Rpos table (subst (Says (bestBelow W R N g held o mask 4)) e says thirteen) in
         record { none = λ q f. absurd (no-place (q, f)) }

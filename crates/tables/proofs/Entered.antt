@@ -3,7 +3,7 @@
 use mathlib.Core.Path.{_≡_, refl, ap, sym, subst, _∙_}
 use mathlib.Core.Bool.{Bool, true, _&&_, _||_}
 use mathlib.Core.List.{List, [], _∷_}
-use mathlib.Core.Logic.{_⊎_, ⊎-elim, _↔_, Iff·rfl}
+use mathlib.Core.Logic.{_⊎_, inl, inr, ⊎-map, _↔_, Iff·rfl}
 use Prim.Native.Nat.{ℕ, zero, suc, _+_, _-_, _≤_, _<_}
 use native.Mathlib.Omega.{arith}
 use native.Mathlib.Decide.{decLt}
@@ -13,14 +13,15 @@ use lib.ListN.{length, getD}
 use Rattle.defs.specs.declared.Position.{Position}
 use Rattle.defs.specs.Meaning.Outline.{sides, KeepsOrder}
 use Rattle.defs.specs.Meaning.Turn.{turned}
-use Rattle.defs.specs.Meaning.Placing.{cellsAt, OnStrip}
+use Rattle.defs.specs.Meaning.Cell.{CoveredGap}
+use Rattle.defs.specs.Meaning.Placing.{moved, cellsAt}
 use Rattle.defs.specs.Computing.Cells.{Rows, inRows, stretches, pieceRuns}
 use Rattle.defs.specs.Computing.Search.{enteredColumn, enteredFrom, entered}
 use Rattle.geom.proofs.Stretches.{stretches-are, no-rows}
 use Rattle.laws.proofs.Tests.{Decides, leb-decides, and-decides, or-decides, decides-by}
 use Rattle.tables.proofs.Columns.{entered-past}
 use Rattle.tables.proofs.Tables.{In, in-table, Table}
-use Rattle.tables.proofs.Moved.{moved-cells, moved-on-strip}
+use Rattle.tables.proofs.Moved.{moved-cells}
 
 entered-at-from : (W : ℕ) (piece : List (List Rows)) (p : Position) (k : ℕ) (held : List (List Rows)) (i : ℕ) → i < length held →
     getD (enteredFrom W piece p k held) i [] ≡ enteredColumn W piece p (getD held i []) (k + i)
@@ -42,42 +43,45 @@ unfolding enteredFrom
 entered-length W piece p k [] = refl
 entered-length W piece p k (b ∷ bs) = ap suc (entered-length W piece p (suc k) bs)
 
-module _ (W R N : ℕ) (held : List (List Rows)) (o : List ℕ) (p : Position)
-    (keeps : KeepsOrder (turned o (p .turn))) (some : 0 < sides o) (Rpos : 1 ≤ R)
-    (table : Table W N held) (on : OnStrip W R N o p) where
+-- Rows from W on and columns from N on do not count, and are not entered.
+module _ (W R N g : ℕ) (held : List (List Rows)) (o : List ℕ) (p : Position)
+    (keeps : KeepsOrder (turned o (p .turn))) (some : 0 < sides o) (Rpos : 1 ≤ R) (table : Table W N held) where
   abbrev own : ℕ → List Rows
-  own i = getD (pieceRuns o (p .turn) R) (i - p .column) []
+  own i = getD (pieceRuns o (p .turn) R g) (i - p .column) []
 
   row-test : ℕ → ℕ → Bool
   row-test i j = inRows (getD held i []) j || (leb (p .column) i && (leb (p .height) j && inRows (own i) (j - p .height)))
 
-  column-is : (i : ℕ) → i < length held → getD (entered W R held o p) i [] ≡ stretches (row-test i) W []
+  column-is : (i : ℕ) → i < length held → getD (entered W R g held o p) i [] ≡ stretches (row-test i) W []
   unfolding entered enteredColumn row-test
-  column-is i l = entered-at W (pieceRuns o (p .turn) R) p held i l
+  column-is i l = entered-at W (pieceRuns o (p .turn) R g) p held i l
 
-  row-decides : (i j : ℕ) → Decides (row-test i j) (In held i j ⊎ cellsAt R o p i j)
+  -- the piece's cells, whether they count or not
+  abbrev moved-cell : ℕ → ℕ → Type 0
+  moved-cell i j = CoveredGap (moved R o p) R g i j
+
+  row-decides : (i j : ℕ) → Decides (row-test i j) (In held i j ⊎ moved-cell i j)
   unfolding row-test
   row-decides i j =
-      let m = moved-cells R o p keeps some Rpos i j in
+      let m = moved-cells R g o p keeps some Rpos i j in
       or-decides Iff·rfl
       (decides-by (λ h. m .1 (h .0, h .1 .0, h .1 .1)) (λ c. let k = m .0 c in (k .0, (k .1, k .2)))
       (and-decides (leb-decides _ _) (and-decides (leb-decides _ _) Iff·rfl)))
 
-  pub entered-cells : (i j : ℕ) → In (entered W R held o p) i j ↔ (In held i j ⊎ cellsAt R o p i j)
-  entered-cells i j = (λ e. forth e (decLt i (length held)), λ c. back (limits c) c)
+  pub entered-cells : (i j : ℕ) → In (entered W R g held o p) i j ↔ (In held i j ⊎ cellsAt W R N g o p i j)
+  entered-cells i j = (λ e. forth e (decLt i (length held)), λ c. back c)
     where
-      forth : In (entered W R held o p) i j → Dec (i < length held) → In held i j ⊎ cellsAt R o p i j
+      forth : In (entered W R g held o p) i j → Dec (i < length held) → In held i j ⊎ cellsAt W R N g o p i j
       forth e (yes l) =
-          row-decides i j .0
-          (stretches-are (row-test i) W j .0 (subst (λ (rs : List Rows). inRows rs j ≡ true) (column-is i l) e) .1)
-      forth e (no l) = absurd (no-rows j (subst (λ (rs : List Rows). inRows rs j ≡ true) (entered-past W R held o p i (omega arith)) e))
+          let s = stretches-are (row-test i) W j .0 (subst (λ (rs : List Rows). inRows rs j ≡ true) (column-is i l) e) in
+          ⊎-map (λ t. t) (λ c. record { cell = c; column = omega (arith, table .long); row = s .0 }) (row-decides i j .0 (s .1))
+      forth e (no l) = absurd (no-rows j (subst (λ (rs : List Rows). inRows rs j ≡ true) (entered-past W R g held o p i (omega arith)) e))
 
-      limits : In held i j ⊎ cellsAt R o p i j → (i < length held) × (j < W)
-      limits =
-          ⊎-elim (λ e. (in-table held i j e, table .below i j e))
-          (λ c. omega (arith, table .long, moved-on-strip R o p keeps some Rpos W N on i j c))
+      here : i < length held → j < W → In held i j ⊎ moved-cell i j → In (entered W R g held o p) i j
+      here l k c =
+          subst (λ (rs : List Rows). inRows rs j ≡ true) (sym (column-is i l))
+          (stretches-are (row-test i) W j .1 (k, row-decides i j .1 c))
 
-      back : (i < length held) × (j < W) → In held i j ⊎ cellsAt R o p i j → In (entered W R held o p) i j
-      back l c =
-          subst (λ (rs : List Rows). inRows rs j ≡ true) (sym (column-is i (l .0)))
-          (stretches-are (row-test i) W j .1 (l .1, row-decides i j .1 c))
+      back : In held i j ⊎ cellsAt W R N g o p i j → In (entered W R g held o p) i j
+      back (inl e) = here (in-table held i j e) (table .below i j e) (inl e)
+      back (inr c) = here (omega (arith, table .long, c .column)) (c .row) (inr (c .cell))

@@ -21,7 +21,7 @@ use Rattle.laws.proofs.Order.{compare3, Before, LeastInTurn}
 use Rattle.tables.proofs.Tables.{In, Table}
 use Rattle.tables.proofs.FreeTest.{free-decides}
 
-module _ (W R N : ℕ) (held : List (List Rows)) (o : List ℕ) (mask : ℕ) (keeps : Question10 o mask)
+module _ (W R N g : ℕ) (held : List (List Rows)) (o : List ℕ) (mask : ℕ) (keeps : Question10 o mask)
     (some-side : 0 < sides o) (Rpos : 1 ≤ R) (table : Table W N held) (t : ℕ) (allows : Allows mask t) where
   abbrev columns : ℕ
   columns = N + 1 - columnsFor (extentX o t) R
@@ -30,7 +30,7 @@ module _ (W R N : ℕ) (held : List (List Rows)) (o : List ℕ) (mask : ℕ) (ke
   heights = W + 1 - extentY o t
 
   abbrev test : ℕ → ℕ → Bool
-  test c y = freeb y (pieceRuns o t R) (dropN c held)
+  test c y = freeb y (pieceRuns o t R g) (dropN c held)
 
   abbrev at-height : ℕ → ℕ → Option Position
   at-height c y = cond (test c y) (some (position t c y)) none
@@ -40,10 +40,10 @@ module _ (W R N : ℕ) (held : List (List Rows)) (o : List ℕ) (mask : ℕ) (ke
 
   -- the positions of turn t that fit are those that are tried and pass
   passes : (c y : ℕ) →
-      Fits W R N (In held) o mask (position t c y) ↔ ((c < columns) × (y < heights) × (test c y ≡ true))
+      Fits W R N g (In held) o mask (position t c y) ↔ ((c < columns) × (y < heights) × (test c y ≡ true))
   unfolding Question10
   passes c y =
-      let d = free-decides W R N held o (position t c y) (keeps t allows) some-side Rpos table in (
+      let d = free-decides W R N g held o (position t c y) (keeps t allows) some-side Rpos table in (
         λ f. (omega (arith, f .on-strip .columns), omega (arith, f .on-strip .rows), d .1 (f .free)),
         λ h.
             record {
@@ -56,32 +56,32 @@ module _ (W R N : ℕ) (held : List (List Rows)) (o : List ℕ) (mask : ℕ) (ke
   as-tried : (q : Position) → q .turn ≡ t → q ≡ position t (q .column) (q .height)
   as-tried q e = ap (λ (a : ℕ). position a (q .column) (q .height)) e
 
-  none-in-column : (c y : ℕ) → in-column c ≡ none → ¬ Fits W R N (In held) o mask (position t c y)
+  none-in-column : (c y : ℕ) → in-column c ≡ none → ¬ Fits W R N g (In held) o mask (position t c y)
   none-in-column c y e f =
       let h = passes c y .0 f in
       if-none (test c y) (position t c y) (none-at (at-height c) 0 heights e y (omega arith) (omega (arith, h .1))) (h .2)
 
-  pub first-none : firstFree W R N held o t ≡ none → (q : Position) → q .turn ≡ t → ¬ Fits W R N (In held) o mask q
+  pub first-none : firstFree W R N g held o t ≡ none → (q : Position) → q .turn ≡ t → ¬ Fits W R N g (In held) o mask q
   unfolding firstFree
   first-none e q et f =
-      let f' = subst (Fits W R N (In held) o mask) (as-tried q et) f in
+      let f' = subst (Fits W R N g (In held) o mask) (as-tried q et) f in
       none-in-column (q .column) (q .height)
       (none-at in-column 0 columns e (q .column) (omega arith) (omega (arith, passes (q .column) (q .height) .0 f' .0))) f'
 
   -- no column before c has one, and no height before y in column c
-  least-at : (c y : ℕ) → Fits W R N (In held) o mask (position t c y) → ((m : ℕ) → 0 ≤ m → m < c → in-column m ≡ none) →
-      ((m : ℕ) → 0 ≤ m → m < y → at-height c m ≡ none) → LeastInTurn W R N (In held) o mask (position t c y)
+  least-at : (c y : ℕ) → Fits W R N g (In held) o mask (position t c y) → ((m : ℕ) → 0 ≤ m → m < c → in-column m ≡ none) →
+      ((m : ℕ) → 0 ≤ m → m < y → at-height c m ≡ none) → LeastInTurn W R N g (In held) o mask (position t c y)
   least-at c y fits no-column no-height =
       record {
         fits = fits;
         least =
             λ q f e n.
             let u = as-tried q e in
-            go (q .column) (q .height) (subst (Fits W R N (In held) o mask) u f) (λ same. n (u ∙ same)) (compare3 c (q .column))
+            go (q .column) (q .height) (subst (Fits W R N g (In held) o mask) u f) (λ same. n (u ∙ same)) (compare3 c (q .column))
             (compare3 y (q .height));
       }
     where
-      go : (c' y' : ℕ) → Fits W R N (In held) o mask (position t c' y') → position t c' y' ≢ position t c y →
+      go : (c' y' : ℕ) → Fits W R N g (In held) o mask (position t c' y') → position t c' y' ≢ position t c y →
           (c < c') ⊎ ((c ≡ c') ⊎ (c' < c)) → (y < y') ⊎ ((y ≡ y') ⊎ (y' < y)) → Before (position t c y) (position t c' y')
       go c' y' f n (inl l) h = inl l
       go c' y' f n (inr (inr l)) h = absurd (none-in-column c' y' (no-column c' (omega arith) l) f)
@@ -92,11 +92,11 @@ module _ (W R N : ℕ) (held : List (List Rows)) (o : List ℕ) (mask : ℕ) (ke
           (if-none (test c y') (position t c y') (no-height y' (omega arith) l)
           (subst (λ (a : ℕ). test a y' ≡ true) (sym e) (passes c' y' .0 f .2)))
 
-  pub first-found : (p : Position) → firstFree W R N held o t ≡ some p → (p .turn ≡ t) × LeastInTurn W R N (In held) o mask p
+  pub first-found : (p : Position) → firstFree W R N g held o t ≡ some p → (p .turn ≡ t) × LeastInTurn W R N g (In held) o mask p
   unfolding firstFree
   first-found p e =
       let f = first-at in-column 0 columns p e in
-      let g = first-at (at-height (f .at)) 0 heights p (f .finds) in
-      let h = if-true (test (f .at) (g .at)) (g .finds) in
-      subst (λ (a : Position). (a .turn ≡ t) × LeastInTurn W R N (In held) o mask a) (h .1)
-      (refl, least-at (f .at) (g .at) (passes (f .at) (g .at) .1 (omega (arith, f .below), omega (arith, g .below), h .0)) (f .before) (g .before))
+      let u = first-at (at-height (f .at)) 0 heights p (f .finds) in
+      let h = if-true (test (f .at) (u .at)) (u .finds) in
+      subst (λ (a : Position). (a .turn ≡ t) × LeastInTurn W R N g (In held) o mask a) (h .1)
+      (refl, least-at (f .at) (u .at) (passes (f .at) (u .at) .1 (omega (arith, f .below), omega (arith, u .below), h .0)) (f .before) (u .before))

@@ -10,18 +10,17 @@ use native.Mathlib.Omega.{arith}
 use lib.ListN.{getD}
 use Rattle.defs.specs.declared.Position.{Position}
 use Rattle.defs.specs.Meaning.Outline.{sides, KeepsOrder}
-use Rattle.defs.specs.Meaning.Turn.{turned, extentX, extentY}
-use Rattle.defs.specs.Meaning.Placing.{columnsFor, endColumn, top, Free}
+use Rattle.defs.specs.Meaning.Turn.{turned}
+use Rattle.defs.specs.Meaning.Placing.{endColumn, top, Free}
 use Rattle.defs.specs.Meaning.Question.{Question18}
 use Rattle.defs.specs.Computing.Test.{any}
-use Rattle.defs.specs.Computing.Cells.{Rows, coveredb, stretches, pieceRuns}
+use Rattle.defs.specs.Computing.Cells.{Rows, pieceRuns}
 use Rattle.defs.specs.Computing.Search.{meets, freeb, dropN}
 use Rattle.defs.specs.Computing.Calls.{q18b}
 use Rattle.geom.proofs.Stretches.{Valid, Among, among-of, of-among}
-use Rattle.geom.proofs.RunLists.{apart-valid, stretches-apart}
-use Rattle.laws.proofs.Lists.{listFrom-each}
+use Rattle.geom.proofs.PieceCells.{runs-valid}
 use Rattle.laws.proofs.Tests.{Decides, leb-decides, ltb-decides, and-decides, or-decides, not-decides, decides-by}
-use Rattle.tables.proofs.Tables.{In, Table}
+use Rattle.tables.proofs.Tables.{In, in-table, Table}
 use Rattle.tables.proofs.Moved.{moved-cells}
 
 -- row j is one of the stretch
@@ -81,21 +80,15 @@ dropN-at (suc n) (b ∷ bs) i =
     let e : suc (n + i) ≡ suc n + i = omega arith in
     dropN-at n bs i ∙ ap (λ (k : ℕ). getD (b ∷ bs) k []) e
 
-pub runs-valid : (o : List ℕ) (t R i : ℕ) → Valid (getD (pieceRuns o t R) i [])
-unfolding pieceRuns Valid
-runs-valid o t R i =
-    listFrom-each Valid (λ k. stretches (coveredb (turned o t) R k) (extentY o t) []) []
-    (λ k. apart-valid 0 _ (stretches-apart (coveredb (turned o t) R k) (extentY o t))) tt 0 (columnsFor (extentX o t) R) i
-
--- A position need not be on the strip for this.
-module _ (W R N : ℕ) (held : List (List Rows)) (o : List ℕ) (p : Position)
+-- A position need not be on the strip for this. The table's rows lie on the strip, so the piece's rows past it share none of them.
+module _ (W R N g : ℕ) (held : List (List Rows)) (o : List ℕ) (p : Position)
     (keeps : KeepsOrder (turned o (p .turn))) (some-side : 0 < sides o) (Rpos : 1 ≤ R) (table : Table W N held) where
-  pub free-decides : Decides (freeb (p .height) (pieceRuns o (p .turn) R) (dropN (p .column) held)) (Free (In held) R o p)
+  pub free-decides : Decides (freeb (p .height) (pieceRuns o (p .turn) R g) (dropN (p .column) held)) (Free (In held) W R N g o p)
   unfolding Free
   free-decides =
       decides-by
       (λ apart i j cell taken.
-      let k = moved-cells R o p keeps some-side Rpos i j .0 cell in
+      let k = moved-cells R g o p keeps some-side Rpos i j .0 (cell .cell) in
       let ei : p .column + (i - p .column) ≡ i = omega (arith, k .0) in
       let ej : j - p .height + p .height ≡ j = omega (arith, k .1) in
       apart (i - p .column)
@@ -103,14 +96,20 @@ module _ (W R N : ℕ) (held : List (List Rows)) (o : List ℕ) (p : Position)
       (λ free i s.
       let ei : p .column + i - p .column ≡ i = omega arith in
       let ej : s .0 + p .height - p .height ≡ s .0 = omega arith in
+      let taken : In held (p .column + i) (s .0 + p .height) = of-among _ (s .0 + p .height) (rw dropN-at at (s .2)) in
       free (p .column + i) (s .0 + p .height)
-      (moved-cells R o p keeps some-side Rpos (p .column + i) (s .0 + p .height) .1
-      (omega arith, omega arith, rw (ei, ej) (of-among _ (s .0) (s .1))))
-      (of-among _ (s .0 + p .height) (rw dropN-at at (s .2))))
-      (test-by-column (p .height) (pieceRuns o (p .turn) R) (dropN (p .column) held) (runs-valid o (p .turn) R)
+      (record {
+        cell =
+            moved-cells R g o p keeps some-side Rpos (p .column + i) (s .0 + p .height) .1
+            (omega arith, omega arith, rw (ei, ej) (of-among _ (s .0) (s .1)));
+        column = omega (arith, in-table held (p .column + i) (s .0 + p .height) taken, table .long);
+        row = table .below (p .column + i) (s .0 + p .height) taken;
+      })
+      taken)
+      (test-by-column (p .height) (pieceRuns o (p .turn) R g) (dropN (p .column) held) (runs-valid o (p .turn) R g)
       (λ i. subst Valid (sym (dropN-at (p .column) held i)) (table .valid (p .column + i))))
 
-  pub question-18 : Decides (q18b W R N held o p) (Question18 W R N (In held) o p)
+  pub question-18 : Decides (q18b W R N g held o p) (Question18 W R N g (In held) o p)
   unfolding q18b endColumn top
   question-18 =
       decides-by (λ h. record { on-strip = record { columns = h .0 .0; rows = h .0 .1 }; free = h .1 })

@@ -1,24 +1,25 @@
 -- The runs of a piece in words: row j of column i is in one of them exactly when the piece's column i holds it, and they stand by column.
 -- Assumes nothing.
 use mathlib.Core.Path.{_≡_, sym, ap, subst, _∙_}
-use mathlib.Core.Logic.{_↔_, ⊎-elim, Iff·rfl}
+use mathlib.Core.Logic.{_↔_, ⊎-elim, Iff·rfl, Iff·symm}
 use mathlib.Core.Bool.{true}
 use mathlib.Core.List.{List, [], _++_}
 use Prim.Native.Nat.{ℕ, _+_, _-_, _*_, _≤_, _<_}
 use native.Mathlib.Omega.{arith}
 use lib.ListN.{length, getD, drop, take-append-drop}
+use Rattle.defs.specs.Meaning.Outline.{sides, KeepsOrder}
 use Rattle.defs.specs.Meaning.Turn.{turned, extentX, extentY}
+use Rattle.defs.specs.Meaning.Cell.{CoveredGap}
 use Rattle.defs.specs.Meaning.Placing.{columnsFor}
-use Rattle.defs.specs.Computing.Cells.{Rows, coveredb, inRows, pieceRuns, countRuns}
+use Rattle.defs.specs.Computing.Cells.{Rows, inRows, pieceRuns, countRuns}
 use Rattle.defs.specs.Computing.Calls.{runsWords}
-use Rattle.laws.proofs.Lists.{listFrom-each, length-listFrom}
 use Rattle.geom.proofs.Strip.{lt-or-le}
-use Rattle.geom.proofs.Stretches.{among-of, of-among, no-rows, stretches-are}
+use Rattle.geom.proofs.Stretches.{among-of, of-among}
 use Rattle.geom.proofs.RunLists.{Apart, place, place-holds, among-at, stretch-is-run}
 use Rattle.geom.proofs.Counting.{numberOf, number-below, spot, spot-number, none}
 use Rattle.geom.proofs.RunWords.{RunAt, run-words, spot-words, later-column}
-use Rattle.geom.proofs.Checks.{runs-apart}
-use Rattle.tables.specs.Piece.{Stands, RunHolds, PieceRuns}
+use Rattle.geom.proofs.PieceCells.{piece-cells, runs-apart, rows-below, piece-columns, run-foot}
+use Rattle.tables.specs.Piece.{runLow, Stands, RunHolds, PieceRuns}
 use Rattle.tables.proofs.Tables.{In, in-table}
 
 module _ {piece : List (List Rows)} {r : List ℕ} {p : ℕ} (stands : Stands piece r p) (apart : (i : ℕ) → Apart (getD piece i [])) where
@@ -108,18 +109,17 @@ module _ {piece : List (List Rows)} {r : List ℕ} {p : ℕ} (stands : Stands pi
         order = λ k m u l. omega (arith, run-at {m = k} (omega arith) .column, run-at l .column, in-order u l);
       }
 
--- the rows of a column are below the extent
-rows-below : (o : List ℕ) (t R i j : ℕ) → In (pieceRuns o t R) i j → j < extentY o t
-unfolding pieceRuns
-rows-below o t R i =
-    listFrom-each (λ rs. (j : ℕ) → inRows rs j ≡ true → j < extentY o t) _ []
-    (λ k j e. stretches-are (coveredb (turned o t) R k) (extentY o t) j .0 e .0) (λ j e. absurd (no-rows j e)) 0 _ i
+pub piece-runs : (o : List ℕ) (t R g : ℕ) (r : List ℕ) (p : ℕ) → Stands (pieceRuns o t R g) r p →
+    PieceRuns r p (columnsFor (extentX o t + g) R) (extentY o t + g)
+piece-runs o t R g r p stands =
+    runs-of stands (runs-apart o t R g) (omega (arith, piece-columns o t R g)) (rows-below o t R g)
 
-piece-columns : (o : List ℕ) (t R : ℕ) → length (pieceRuns o t R) ≡ columnsFor (extentX o t) R
-unfolding pieceRuns
-piece-columns o t R = length-listFrom _ 0 (columnsFor (extentX o t) R)
-
-pub piece-runs : (o : List ℕ) (t R : ℕ) (r : List ℕ) (p : ℕ) → Stands (pieceRuns o t R) r p →
-    PieceRuns r p (columnsFor (extentX o t) R) (extentY o t)
-piece-runs o t R r p stands =
-    runs-of stands (runs-apart o t R) (omega (arith, piece-columns o t R)) (rows-below o t R)
+-- each run begins below the top of the extent
+pub piece-feet : (o : List ℕ) (t R g : ℕ) → KeepsOrder (turned o t) → 0 < sides o → 1 ≤ R → {r : List ℕ} {p : ℕ} →
+    Stands (pieceRuns o t R g) r p → (k : ℕ) → k < p → runLow r k < extentY o t
+piece-feet o t R g keeps some Rpos stands k l =
+    let run =
+    stretch-is-run none (CoveredGap (turned o t) R g) (column stands (runs-apart o t R g) k)
+    (getD (pieceRuns o t R g) (column stands (runs-apart o t R g) k) []) (runs-apart o t R g _)
+    (λ j. Iff·symm (piece-cells o t R g keeps some Rpos _ j)) (index stands (runs-apart o t R g) k) (index-below stands (runs-apart o t R g) l) in
+    omega (arith, run-at stands (runs-apart o t R g) l .low, run-foot o t R g keeps some Rpos run)

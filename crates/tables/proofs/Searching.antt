@@ -53,21 +53,21 @@ Turned t q = q .turn ≡ t
 below-or-turned : (t : ℕ) (q : Position) → Below (suc t) q → Below t q ⊎ Turned t q
 below-or-turned t q h = ⊎-elim inl (λ l. inr (omega arith)) (lt-or-le (q .turn) t)
 
-module _ (W R N : ℕ) (Occupied : Cells) (o : List ℕ) (mask : ℕ) where
+module _ (W R N g : ℕ) (Occupied : Cells) (o : List ℕ) (mask : ℕ) where
   -- p is the best of the positions in S that fit
   record BestOf (S : Position → Type 0) (p : Position) : Type 0 where
     member : S p
-    fits : Fits W R N Occupied o mask p
-    first : (q : Position) → S q → Fits W R N Occupied o mask q → q ≢ p → Later R o p q
+    fits : Fits W R N g Occupied o mask p
+    first : (q : Position) → S q → Fits W R N g Occupied o mask q → q ≢ p → Later R o p q
 
   -- what is found in S: the best of those that fit, or none, where none fits
   abbrev Finds : (Position → Type 0) → Option Position → Type 0
-  Finds S none = (q : Position) → S q → ¬ Fits W R N Occupied o mask q
+  Finds S none = (q : Position) → S q → ¬ Fits W R N g Occupied o mask q
   Finds S (some p) = BestOf S p
 
   -- the best of S is the best of U, where each other of U comes later
   best-of-more : (S U : Position → Type 0) (p : Position) → U p → BestOf S p →
-      ((r : Position) → U r → Fits W R N Occupied o mask r → S r ⊎ Later R o p r) → BestOf U p
+      ((r : Position) → U r → Fits W R N g Occupied o mask r → S r ⊎ Later R o p r) → BestOf U p
   best-of-more S U p u b others =
       record {
         member = u;
@@ -77,7 +77,7 @@ module _ (W R N : ℕ) (Occupied : Cells) (o : List ℕ) (mask : ℕ) where
 
   -- what comes before the best of S comes before each of S
   before-best : (S : Position → Type 0) (p q : Position) → Later R o p q → BestOf S q →
-      (r : Position) → S r → Fits W R N Occupied o mask r → Later R o p r
+      (r : Position) → S r → Fits W R N g Occupied o mask r → Later R o p r
   before-best S p q l b r h f =
       ⊎-elim (λ (e : r ≡ q). subst (Later R o p) (sym e) l) (λ n. later-transitive R o p q r l (b .first r h f n)) (same-or-not r q)
 
@@ -101,55 +101,55 @@ module _ (W R N : ℕ) (Occupied : Cells) (o : List ℕ) (mask : ℕ) where
           best-of-more (Below t) (Below (suc t)) p (omega (arith, a .member)) a
           (λ r h f. ⊎-elim inl (λ u. inr (before-best (Turned t) p q l b r u f)) (below-or-turned t r h))
 
-module _ (W R N : ℕ) (held : List (List Rows)) (o : List ℕ) (mask : ℕ)
+module _ (W R N g : ℕ) (held : List (List Rows)) (o : List ℕ) (mask : ℕ)
     (keeps : Question10 o mask) (some-side : 0 < sides o) (Rpos : 1 ≤ R) (table : Table W N held) where
   abbrev Found : (Position → Type 0) → Option Position → Type 0
-  Found S x = Finds W R N (In held) o mask S x
+  Found S x = Finds W R N g (In held) o mask S x
 
-  allowed-finds : (t : ℕ) → Allows mask t → Found (Turned t) (firstFree W R N held o t)
-  allowed-finds t a = go (firstFree W R N held o t) refl
+  allowed-finds : (t : ℕ) → Allows mask t → Found (Turned t) (firstFree W R N g held o t)
+  allowed-finds t a = go (firstFree W R N g held o t) refl
     where
-      go : (x : Option Position) → firstFree W R N held o t ≡ x → Found (Turned t) x
-      go none e = first-none W R N held o mask keeps some-side Rpos table t a e
+      go : (x : Option Position) → firstFree W R N g held o t ≡ x → Found (Turned t) x
+      go none e = first-none W R N g held o mask keeps some-side Rpos table t a e
       go (some p) e =
-          let f = first-found W R N held o mask keeps some-side Rpos table t a p e in
+          let f = first-found W R N g held o mask keeps some-side Rpos table t a p e in
           record {
             member = f .0;
             fits = f .1 .fits;
             first = λ q u g n. before-later R o p q (f .0 ∙ sym u) (f .1 .least q g (u ∙ sym (f .0)) n);
           }
 
-  turn-finds : (t : ℕ) → t ≤ mostTurn → Found (Turned t) (cond (allowedb mask t) (firstFree W R N held o t) none)
+  turn-finds : (t : ℕ) → t ≤ mostTurn → Found (Turned t) (cond (allowedb mask t) (firstFree W R N g held o t) none)
   turn-finds t h = go (allowedb mask t) refl
     where
-      go : (b : Bool) → allowedb mask t ≡ b → Found (Turned t) (cond b (firstFree W R N held o t) none)
+      go : (b : Bool) → allowedb mask t ≡ b → Found (Turned t) (cond b (firstFree W R N g held o t) none)
       go true e = allowed-finds t (allowed mask t h .0 e)
       go false e = λ q u f. false≢true (sym e ∙ allowed mask t h .1 (subst (Allows mask) u (f .allowed)))
 
-  finds : (n : ℕ) → n ≤ suc mostTurn → Found (Below n) (bestBelow W R N held o mask n)
+  finds : (n : ℕ) → n ≤ suc mostTurn → Found (Below n) (bestBelow W R N g held o mask n)
   unfolding bestBelow
   finds zero h = λ q l. absurd (omega arith)
-  finds (suc t) h = better-finds W R N (In held) o mask t _ _ (finds t (omega arith)) (turn-finds t (omega arith))
+  finds (suc t) h = better-finds W R N g (In held) o mask t _ _ (finds t (omega arith)) (turn-finds t (omega arith))
 
   -- every turn that may be allowed is below 4
-  found : (x : Option Position) → bestBelow W R N held o mask 4 ≡ x → Found (Below 4) x
+  found : (x : Option Position) → bestBelow W R N g held o mask 4 ≡ x → Found (Below 4) x
   found x e = subst (Found (Below 4)) e (finds 4 (omega arith))
 
-  pub best-found : (p : Position) → bestBelow W R N held o mask 4 ≡ some p → Best W R N (In held) o mask p
+  pub best-found : (p : Position) → bestBelow W R N g held o mask 4 ≡ some p → Best W R N g (In held) o mask p
   best-found p e =
       let b = found (some p) e in
       record { fits = b .fits; first = λ q f n. b .first q (omega (arith, f .allowed .turn)) f n }
 
-  pub none-found : bestBelow W R N held o mask 4 ≡ none → ¬ Question13 W R N (In held) o mask
+  pub none-found : bestBelow W R N g held o mask 4 ≡ none → ¬ Question13 W R N g (In held) o mask
   unfolding Question13
   none-found e q = found none e (q .0) (omega (arith, q .1 .allowed .turn)) (q .1)
 
   -- "13. Is there a free position?"
-  pub none-exactly : (bestBelow W R N held o mask 4 ≡ none) ↔ ¬ Question13 W R N (In held) o mask
+  pub none-exactly : (bestBelow W R N g held o mask 4 ≡ none) ↔ ¬ Question13 W R N g (In held) o mask
   unfolding Question13
-  none-exactly = (none-found, λ no-place. go no-place (bestBelow W R N held o mask 4) refl)
+  none-exactly = (none-found, λ no-place. go no-place (bestBelow W R N g held o mask 4) refl)
     where
-      go : ¬ Question13 W R N (In held) o mask → (x : Option Position) → bestBelow W R N held o mask 4 ≡ x →
-          bestBelow W R N held o mask 4 ≡ none
+      go : ¬ Question13 W R N g (In held) o mask → (x : Option Position) → bestBelow W R N g held o mask 4 ≡ x →
+          bestBelow W R N g held o mask 4 ≡ none
       go no-place none e = e
       go no-place (some p) e = absurd (no-place (p, best-found p e .fits))

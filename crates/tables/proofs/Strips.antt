@@ -110,15 +110,15 @@ module _ (s : List ℕ) (w : wellFormedb s ≡ true) where
       }
 
 -- any two strips that a call may leave hold the same cells
-pub same-cells : (W R N words : ℕ) (runs : ℕ → List Rows) (s s' : List ℕ) → Left W R N words runs s →
-    Left W R N words runs s' → (i j : ℕ) → Holds s i j ↔ Holds s' i j
-same-cells W R N words runs s s' l l' i j =
+pub same-cells : (W R N g words : ℕ) (runs : ℕ → List Rows) (s s' : List ℕ) → Left W R N g words runs s →
+    Left W R N g words runs s' → (i j : ℕ) → Holds s i j ↔ Holds s' i j
+same-cells W R N g words runs s s' l l' i j =
     Iff·trans (holds-table s (l .well-formed) i j)
     (rw (go (decLt i N)) (Iff·symm (holds-table s' (l' .well-formed) i j)))
   where
     go : Dec (i < N) → getD (columnsRuns s) i [] ≡ getD (columnsRuns s') i []
     go (yes h) = at s l h ∙ sym (at s' l' h)
       where
-        at : (t : List ℕ) → Left W R N words runs t → i < N → getD (columnsRuns t) i [] ≡ runs i
+        at : (t : List ℕ) → Left W R N g words runs t → i < N → getD (columnsRuns t) i [] ≡ runs i
         at t m h = column-at t i (omega (arith, m .columns)) ∙ m .holds i h
     go (no h) = column-past s i (omega (arith, l .columns)) ∙ sym (column-past s' i (omega (arith, l' .columns)))

@@ -8,8 +8,8 @@ use native.Mathlib.Omega.{arith}
 use native.Mathlib.Nat.{zero-add}
 use lib.ListN.{length, getD, replicate, length-append, length-replicate, List·getD-append}
 use lib.Seq.{getD-at}
-use Rattle.defs.specs.Meaning.Limits.{Between, mostRecords, leadingWords, recordWords}
-use Rattle.defs.specs.Meaning.Strip.{Limits, Length, widthOf, resolutionOf, columnsOf}
+use Rattle.defs.specs.Meaning.Limits.{Between, mostRecords, leadingWords, recordWords, mostGap}
+use Rattle.defs.specs.Meaning.Strip.{Limits, Length, widthOf, resolutionOf, columnsOf, gapOf}
 use Rattle.defs.specs.Computing.Test.{listFrom}
 use Rattle.defs.specs.Computing.Cells.{Rows, inRows, countRuns}
 use Rattle.defs.specs.Computing.Words.{occurrences, concat, wellFormedb, written}
@@ -74,33 +74,35 @@ module _
       (once-in-range (r + 1) 1 (countRuns every) (omega arith) (omega (arith, records-in-all)))
 
   laid-formed : Length (columnsOf s) (recordsIn s) (length s) → Limits (widthOf s) (resolutionOf s) (columnsOf s) →
-      wellFormedb s ≡ true
-  laid-formed long limits =
+      gapOf s ≤ mostGap → wellFormedb s ≡ true
+  laid-formed long limits gap =
       lists-decide s .1
       (record {
         long = long;
         limits = limits;
+        gap = gap;
         ends = λ k h. column-ends s (each-at k h);
         columns = λ k h. column-formed s (held-at k h) (table .apart k h) (λ j. table .below k j h);
         frees = free-formed s free free-at;
         once = each-once;
       })
 
-pub written-left : (W R N Q : ℕ) (held : List (List Rows)) → Limits W R N → Between 1 Q mostRecords → Writable W N Q held →
-    Left W R N (leadingWords + N + recordWords * Q) (λ k. getD held k []) (written W R N Q held)
+pub written-left : (W R N g Q : ℕ) (held : List (List Rows)) → Limits W R N → g ≤ mostGap → Between 1 Q mostRecords → Writable W N Q held →
+    Left W R N g (leadingWords + N + recordWords * Q) (λ k. getD held k []) (written W R N g Q held)
 unfolding written
-written-left W R N Q held limits records table =
-    let s = written W R N Q held in
-    let words : length s ≡ leadingWords + N + recordWords * Q = length-written W R N Q held (table .long) (table .fits) in
+written-left W R N g Q held limits gap records table =
+    let s = written W R N g Q held in
+    let words : length s ≡ leadingWords + N + recordWords * Q = length-written W R N g Q held (table .long) (table .fits) in
     let long : Length N Q (length s) = record { records = records; words-are = words } in
     let e : recordsIn s ≡ Q = records-are N Q (length s) long in
     let table' : Writable W N (recordsIn s) held = rw e table in
-    let laid = written-laid W R N Q held (table .long) in
+    let laid = written-laid W R N g Q held (table .long) in
     record {
-      well-formed = laid-formed s held table' (rw e laid) (rw e long) limits;
+      well-formed = laid-formed s held table' (rw e laid) (rw e long) limits gap;
       long = words;
       width = refl;
       resolution = refl;
       columns = refl;
+      gap = refl;
       holds = λ k h. runs-laid s (held-at s held table' (rw e laid) k h);
     }

@@ -48,10 +48,10 @@ free-column N r (suc n) =
     rw (length-replicate n none)
     (ap (λ (l : List ℕ). N ∷ (0 ∷ (0 ∷ (cond (eqb n 0) 0 (r + 1) ∷ l)))) (free-column N (r + 1) n))
 
-pub length-written : (W R N Q : ℕ) (held : List (List Rows)) → length held ≡ N → countRuns held ≤ Q →
-    length (written W R N Q held) ≡ leadingWords + N + recordWords * Q
+pub length-written : (W R N g Q : ℕ) (held : List (List Rows)) → length held ≡ N → countRuns held ≤ Q →
+    length (written W R N g Q held) ≡ leadingWords + N + recordWords * Q
 unfolding written
-length-written W R N Q held e h =
+length-written W R N g Q held e h =
     let n = countRuns held in
     omega (
       arith,
@@ -79,7 +79,7 @@ words-after s p q a b e h = rw (← h) (sym (drop-drop (length p) a s) ∙ ap (d
 module _ (s : List ℕ) where
   -- the first word of record r
   abbrev startOf : ℕ → ℕ
-  startOf r = recordWords * r + columnsOf s
+  startOf r = recordWords * r + columnsOf s + 1
 
   column-words : (rest : List ℕ) (k r : ℕ) (c : List Rows) → drop (startOf r) s ≡ columnWords k r c ++ rest → Laid s k r c
   unfolding columnWords Laid
@@ -127,12 +127,12 @@ first-free n Q zero e = rw (le-ltb n Q (omega arith))
 first-free n Q (suc m) e = rw (lt-ltb n Q (omega arith))
 
 -- the records that the table leaves of Q are free
-pub written-laid : (W R N Q : ℕ) (held : List (List Rows)) → length held ≡ N →
-    LaidFrom (written W R N Q held) 0 1 (withFree held (Q - countRuns held))
+pub written-laid : (W R N g Q : ℕ) (held : List (List Rows)) → length held ≡ N →
+    LaidFrom (written W R N g Q held) 0 1 (withFree held (Q - countRuns held))
 unfolding written
-written-laid W R N Q held e =
+written-laid W R N g Q held e =
     let n = countRuns held in
-    let s = written W R N Q held in
+    let s = written W R N g Q held in
     let rest = runWords 0 1 held ++ freeWords N (n + 1) (Q - n) in
     table-words s rest (n + 1) (Q - n) (first-free n Q (Q - n) refl) 0 1 held (omega arith) (omega arith) refl
     (words-after s (heads 1 held) rest leadingWords (startOf s 1) refl (omega (arith, length-heads 1 held)))

@@ -1,7 +1,7 @@
 -- From lay's answer to the text, and which strip serves for it.
 -- Assumes nothing.
 use mathlib.Core.Path.{_≡_, refl, sym, ap, _∙_}
-use mathlib.Core.Bool.{Bool}
+use mathlib.Core.Bool.{Bool, true}
 use mathlib.Core.Option.{none, some}
 use mathlib.Core.List.{List, [], _∷_, _++_}
 use Prim.Native.Nat.{ℕ, _+_, _*_, _≤_}
@@ -17,7 +17,7 @@ use Rattle.defs.specs.declared.Laying.the-variants.{Laid, Refused as NotLaid}
 use Rattle.defs.specs.Meaning.Limits.{mostPieces}
 use Rattle.defs.specs.Meaning.Sheet.{sheetW, sheetR, sheetN}
 use Rattle.defs.specs.Computing.Ascii.{ascii}
-use Rattle.defs.specs.Computing.Words.{limitsNo, lengthb}
+use Rattle.defs.specs.Computing.Words.{gapb, limitsNo, lengthb}
 use Rattle.defs.specs.Computing.Sheets.{q1b, q2b, q6b, pieceOf, pieceRecords, sheetPieces, sheetNo}
 use Rattle.defs.specs.Computing.Lay.{entriesWords, layEntries, layAnswer, layOutput, LayStep}
 use Rattle.defs.specs.Computing.Text.{spaced, line, entryLines, programStrip, programWork, layText}
@@ -36,7 +36,7 @@ use Rattle.layout.proofs.Lines.{strip-few, lines-few}
 use Rattle.layout.proofs.Entries.{job-words, job-lines}
 
 -- the first n words of the greatest strip
-module _ (s : List ℕ) {b : List ℕ} {n : ℕ} (w : StripWords b n) (l : length s ≡ 20100) where
+module _ (s : List ℕ) {b : List ℕ} {n : ℕ} (w : StripWords b n) (l : length s ≡ 20101) where
   pub part-long : length (take n s) ≡ n
   part-long = length-take-le n s (omega (arith, w .few))
 
@@ -49,41 +49,41 @@ lay-refused : {t : Totals} (r : Refusal) → ¬ (NotLaid r ≡ Laid t)
 lay-refused r e = let z : _≡_ {A = ℕ} 0 1 = cc in omega arith
 
 -- the first "no" decides the answer
-answer-no : (b : List ℕ) (strip out work : ℕ) (r : Refusal) → sheetNo b (lengthb (sheetN b) strip) ≡ some r →
-    layAnswer b strip out work ≡ NotLaid r
-unfolding layAnswer
+answer-no : (b : List ℕ) (strip out work : ℕ) (r : Refusal) → sheetNo b true (lengthb (sheetN b) strip) ≡ some r →
+    layAnswer b 0 strip out work ≡ NotLaid r
+unfolding layAnswer gapb
 answer-no b strip out work r e = ap (said NotLaid _) e
 
-same-answer : {b : List ℕ} {n : ℕ} (out work : ℕ) → StripFor b n → layAnswer b n out work ≡ layAnswer b (programStrip b) out work
-same-answer {b} out work (exact e) = ap (λ (n : ℕ). layAnswer b n out work) e
+same-answer : {b : List ℕ} {n : ℕ} (out work : ℕ) → StripFor b n → layAnswer b 0 n out work ≡ layAnswer b 0 (programStrip b) out work
+same-answer {b} out work (exact e) = ap (λ (n : ℕ). layAnswer b 0 n out work) e
 same-answer {b} {n} out work (early r h) =
     answer-no b n out work r (h (lengthb (sheetN b) n)) ∙
     sym (answer-no b (programStrip b) out work r (h (lengthb (sheetN b) (programStrip b))))
 
 -- a job that is laid has the strip that it is to have
-laid-strip : {b : List ℕ} {n : ℕ} (out work : ℕ) {t : Totals} → StripFor b n → Laid t ≡ layAnswer b n out work → n ≡ programStrip b
+laid-strip : {b : List ℕ} {n : ℕ} (out work : ℕ) {t : Totals} → StripFor b n → Laid t ≡ layAnswer b 0 n out work → n ≡ programStrip b
 laid-strip out work (exact e) l = e
 laid-strip {b} {n} out work (early r h) l =
     absurd (lay-refused r (sym (answer-no b n out work r (h (lengthb (sheetN b) n))) ∙ sym l))
 
-pub answered : {b s out work s' out' work' : List ℕ} {a : Laying} → LayStep b s out work a s' out' work' →
+pub answered : {b s out work s' out' work' : List ℕ} {a : Laying} → LayStep b 0 s out work a s' out' work' →
     StripFor b (length s) → length out ≡ 4 * mostPieces → length work ≡ programWork → Answered b out' a
 unfolding layOutput
 answered {b} {s} {out} {work} {out' = out'} {a = a} x strip o w =
     record {
-      rest = drop (length (entriesWords (layEntries b (programStrip b) programWork))) out;
+      rest = drop (length (entriesWords (layEntries b 0 (programStrip b) programWork))) out;
       answer = x .answer ∙ rw (o, w) (same-answer (4 * mostPieces) programWork strip);
       output = λ t e. words t e (laid-strip (length out) (length work) strip (sym e ∙ x .answer));
     }
   where
     words : (t : Totals) → a ≡ Laid t → length s ≡ programStrip b →
         out' ≡
-        entriesWords (layEntries b (programStrip b) programWork) ++
-        drop (length (entriesWords (layEntries b (programStrip b) programWork))) out
+        entriesWords (layEntries b 0 (programStrip b) programWork) ++
+        drop (length (entriesWords (layEntries b 0 (programStrip b) programWork))) out
     words t e f = rw (f, w, e) at (x .output)
 
 -- a sheet whose job is laid passes its questions
-pub passes : {b : List ℕ} (fourth : Bool) → sheetNo b fourth ≡ none → Passes b
+pub passes : {b : List ℕ} (fourth : Bool) → sheetNo b true fourth ≡ none → Passes b
 unfolding sheetNo
 passes {b} fourth e =
     let e1 = asked (q1b b) _ e some-none in
@@ -94,10 +94,10 @@ passes {b} fourth e =
     record { two = question-2 b .0 (e2 .0) .fits; six = e6 .0 }
 
 pub laid-passes : {b ws : List ℕ} {t : Totals} → Answered b ws (Laid t) → Passes b
-unfolding layAnswer
+unfolding layAnswer gapb
 laid-passes {b} s =
     let fourth = lengthb (sheetN b) (programStrip b) in
-    passes fourth (not-refused (sheetNo b fourth) (sym (s .answer)) lay-refused .0)
+    passes fourth (not-refused (sheetNo b true fourth) (sym (s .answer)) lay-refused .0)
 
 pieces-long : (b : List ℕ) → length (sheetPieces b) ≡ length (pieceRecords b)
 unfolding sheetPieces
@@ -110,7 +110,7 @@ printed b a =
     elim a [
       | Laid t ↦
           line "strip" (sheetW b ∷ sheetR b ∷ sheetN b ∷ []) ++
-          (entryLines (layEntries b (programStrip b) programWork) ++
+          (entryLines (layEntries b 0 (programStrip b) programWork) ++
           (ascii "used" ++ (spaced (t .used ∷ []) ++ line " placed" (t .placed ∷ []))))
       | NotLaid r ↦ line "job refused" (r .number ∷ r .ordinal ∷ [])
     ]
@@ -119,7 +119,7 @@ text-is : {b ws : List ℕ} {a : Laying} → Answered b ws a → printed b a ≡
 unfolding layText
 text-is {b} s = ap (printed b) (s .answer)
 
-pub early-text : (b : List ℕ) (r : Refusal) → ((fourth : Bool) → sheetNo b fourth ≡ some r) →
+pub early-text : (b : List ℕ) (r : Refusal) → ((fourth : Bool) → sheetNo b true fourth ≡ some r) →
     layText b ≡ line "job refused" (r .number ∷ r .ordinal ∷ [])
 unfolding layText
 early-text b r h =

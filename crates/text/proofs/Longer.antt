@@ -29,7 +29,7 @@ abbrev numberOf : Bool → ℕ
 numberOf true = 2
 numberOf false = 1
 
-refused-by : (b : List ℕ) (t : Bool) → q1b b ≡ t → mostBytes < length b → (fourth : Bool) → sheetNo b fourth ≡ some (refusal (numberOf t) 0)
+refused-by : (b : List ℕ) (t : Bool) → q1b b ≡ t → mostBytes < length b → (fourth : Bool) → sheetNo b true fourth ≡ some (refusal (numberOf t) 0)
 unfolding sheetNo
 refused-by b true e l fourth = rw (e, too-long b l)
 refused-by b false e l fourth = rw e

@@ -14,11 +14,11 @@ use Rattle.defs.specs.Computing.Sheets.{q6b}
 use Rattle.defs.specs.Computing.Lay.{entriesWords, layEntries, layAnswer}
 use Rattle.defs.specs.Computing.Text.{programStrip, programWork, layText}
 
--- lay's answer, and its output where the job is laid
+-- lay's answer with no gap, and its output where the job is laid
 pub record Answered (b ws : List ℕ) (a : Laying) : Type 0 where
   pub rest : List ℕ
-  pub answer : a ≡ layAnswer b (programStrip b) (4 * mostPieces) programWork
-  pub output : (t : Totals) → a ≡ Laid t → ws ≡ entriesWords (layEntries b (programStrip b) programWork) ++ rest
+  pub answer : a ≡ layAnswer b 0 (programStrip b) (4 * mostPieces) programWork
+  pub output : (t : Totals) → a ≡ Laid t → ws ≡ entriesWords (layEntries b 0 (programStrip b) programWork) ++ rest
 
 -- a sheet that passes 2 and 6
 pub record Passes (b : List ℕ) : Type 0 where

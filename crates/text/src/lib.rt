@@ -50,7 +50,7 @@ fn lay_lent(
         ∗ ⌜ 8192 ≤ length (now out) ⌝ }
     ensures { λ r. ⌜ Shows (now (sheet .entry)) (now (out .exit)) r ⌝ }
 {
-    let a = laying::lay(sheet, strip, words, work);
+    let a = laying::lay(sheet, 0, strip, words, work);
     put_answer(sheet, words, a, out)
 }
 
@@ -66,7 +66,7 @@ fn lay_strip(sheet: &[u8], strip: &mut [u16], out: &mut [u8]) -> usize
 
 // Lends as much of the strip as the sheet is to have.
 fn lay_part(sheet: &[u8], strip: &mut [u16], out: &mut [u8]) -> usize
-    requires { ⌜ length (now strip) ≡ 20100 ⌝ ∗ ⌜ 8192 ≤ length (now out) ⌝ }
+    requires { ⌜ length (now strip) ≡ 20101 ⌝ ∗ ⌜ 8192 ≤ length (now out) ⌝ }
     ensures { λ r. ⌜ Shows (now (sheet .entry)) (now (out .exit)) r ⌝ }
 {
     let n = lent::strip_words(sheet);

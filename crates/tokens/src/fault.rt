@@ -39,3 +39,9 @@ pub const UNREAD: Fault = 16;
 pub const SHAPE: Fault = 17;
 
 pub const COORDINATE: Fault = 18;
+
+pub const GAP: Fault = 19;
+
+pub const GAPS: Fault = 20;
+
+pub const GAP_FIRST: Fault = 21;

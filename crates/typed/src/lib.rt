@@ -48,7 +48,7 @@ fn put_fault(out: &mut [u8], at: usize, f: Fault) -> usize
     put_line(
         out,
         at,
-        b"a line begins with strip, piece, path or mm
+        b"a line begins with strip, gap, piece, path or mm
 a number is expected
 a number is at most 65535 units
 one to three digits follow a point
@@ -67,6 +67,9 @@ a path has a mask and the name of a file
 the file of the path cannot be read or is empty
 the path is not one move, 2 to 63 lines and one close
 a coordinate of the path is not a multiple of 0.125 mm from 0 to 2000 mm
+a gap is one length from 0 to 50 mm
+there is one gap
+the gap comes before the pieces
 ",
         f as usize,
     )
@@ -84,9 +87,9 @@ fn put_number(out: &mut [u8], line: u16) -> usize
     print::put(out, a, b": ")
 }
 
-// Bytes at the start of the output: of a sheet, with the bytes of the notes on it, or of a message.
+// Bytes at the start of the output: of a sheet, with the bytes of the notes on it and the job's gap, or of a message.
 pub enum Made {
-    Sheet(usize, usize),
+    Sheet(usize, usize, u16),
     Message(usize),
 }
 
@@ -141,14 +144,14 @@ fn refused_line(r: Refusal, strip: u16, lines: &[u16]) -> u16 {
 }
 
 // A sheet of n bytes in so much room, with so many bytes of notes.
-fn sheet_within(n: u32, room: usize, noted: usize) -> Made
+fn sheet_within(n: u32, room: usize, noted: usize, gap: u16) -> Made
     ensures { λ a. ⌜ Fits a room noted ⌝ }
 {
     let bytes = n as usize;
     if room < bytes {
-        return Made::Sheet(room, noted);
+        return Made::Sheet(room, noted, gap);
     }
-    Made::Sheet(bytes, noted)
+    Made::Sheet(bytes, noted, gap)
 }
 
 // The write call for a job whose pieces stand in the list.
@@ -165,7 +168,10 @@ fn sheet_of_job(job: Job, list: &mut [u16], lines: &[u16], out: &mut [u8], notes
     ensures { λ a. ⌜ Fits a (length (now (out .exit))) (length (now (notes .exit))) ⌝ }
 {
     match write(job, list, out) {
-        Writing::Written(n) => sheet_within(n, out.len(), notes::put_notes(notes, list, lines)),
+        Writing::Written(n) => {
+            let noted = notes::put_notes(notes, list, lines);
+            sheet_within(n, out.len(), noted, job.gap)
+        }
         Writing::Refused(r) => put_refused(out, r, refused_line(r, job.strip, lines)),
     }
 }

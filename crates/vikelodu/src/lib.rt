@@ -1,14 +1,21 @@
-// The calls as C functions: an answer of several numbers in one of 64 bits.
+// The calls as C functions: an answer of several numbers in one of 64 bits. A call whose arguments have changed has the number of the
+// header's edition in its name, so that a program compiled against an older header does not link.
 
 ghost use Rattle.packing.specs.Steps.{OpenPacked, CoverPacked, PlacePacked, AskPacked, CommitPacked, ReadPacked, WritePacked, LayPacked, RetracePacked, PathReadPacked, PathWritePacked, OpenBytesPacked, PlaceBytesPacked, AskBytesPacked, CommitBytesPacked, LayBytesPacked};
 use defs::Position;
 
 // The open call.
 #[no_mangle]
-pub extern "C" fn vikelodu_open(width: u16, resolution: u16, columns: u16, strip: &mut [u16]) -> u64
-    ensures { λ r. ⌜ OpenPacked width resolution columns (now (strip .entry)) r (now (strip .exit)) ⌝ }
+pub extern "C" fn vikelodu_open_4(
+    width: u16,
+    resolution: u16,
+    columns: u16,
+    gap: u16,
+    strip: &mut [u16],
+) -> u64
+    ensures { λ r. ⌜ OpenPacked width resolution columns gap (now (strip .entry)) r (now (strip .exit)) ⌝ }
 {
-    let a = open::open(width, resolution, columns, strip);
+    let a = open::open(width, resolution, columns, gap, strip);
     packing::pack_opening(a)
 }
 
@@ -58,15 +65,16 @@ pub extern "C" fn vikelodu_commit(
 
 // The cover call: the number of runs in the high 32 bits.
 #[no_mangle]
-pub extern "C" fn vikelodu_cover(
+pub extern "C" fn vikelodu_cover_4(
     outline: &[u16],
     turn: u16,
     resolution: u16,
+    gap: u16,
     output: &mut [u16],
 ) -> u64
-    ensures { λ r. ⌜ CoverPacked (now (outline .entry)) turn resolution (now (output .entry)) r (now (output .exit)) ⌝ }
+    ensures { λ r. ⌜ CoverPacked (now (outline .entry)) turn resolution gap (now (output .entry)) r (now (output .exit)) ⌝ }
 {
-    let a = cover::cover(outline, turn, resolution, output);
+    let a = cover::cover(outline, turn, resolution, gap, output);
     packing::pack_covering(a)
 }
 
@@ -96,15 +104,16 @@ pub extern "C" fn vikelodu_write(
 
 // The lay call: pieces placed and used columns after the number 0.
 #[no_mangle]
-pub extern "C" fn vikelodu_lay(
+pub extern "C" fn vikelodu_lay_4(
     sheet: &[u8],
+    gap: u16,
     strip: &mut [u16],
     output: &mut [u16],
     work: &mut [u16],
 ) -> u64
-    ensures { λ r. ⌜ LayPacked (now (sheet .entry)) (now (strip .entry)) (now (output .entry)) (now (work .entry)) r (now (strip .exit)) (now (output .exit)) (now (work .exit)) ⌝ }
+    ensures { λ r. ⌜ LayPacked (now (sheet .entry)) gap (now (strip .entry)) (now (output .entry)) (now (work .entry)) r (now (strip .exit)) (now (output .exit)) (now (work .exit)) ⌝ }
 {
-    let a = laying::lay(sheet, strip, output, work);
+    let a = laying::lay(sheet, gap, strip, output, work);
     packing::pack_laying(a)
 }
 
@@ -137,15 +146,16 @@ pub extern "C" fn vikelodu_write_path(outline: &[u16], output: &mut [u8]) -> u64
 
 // The open call on a strip passed as bytes.
 #[no_mangle]
-pub extern "C" fn vikelodu_open_bytes(
+pub extern "C" fn vikelodu_open_bytes_4(
     width: u16,
     resolution: u16,
     columns: u16,
+    gap: u16,
     strip: &mut [u8],
 ) -> u64
-    ensures { λ r. ⌜ OpenBytesPacked width resolution columns (now (strip .entry)) r (now (strip .exit)) ⌝ }
+    ensures { λ r. ⌜ OpenBytesPacked width resolution columns gap (now (strip .entry)) r (now (strip .exit)) ⌝ }
 {
-    let a = bytecalls::open_bytes(width, resolution, columns, strip);
+    let a = bytecalls::open_bytes(width, resolution, columns, gap, strip);
     packing::pack_opening(a)
 }
 
@@ -200,14 +210,15 @@ pub extern "C" fn vikelodu_commit_bytes(
 
 // The lay call on buffers passed as bytes.
 #[no_mangle]
-pub extern "C" fn vikelodu_lay_bytes(
+pub extern "C" fn vikelodu_lay_bytes_4(
     sheet: &[u8],
+    gap: u16,
     strip: &mut [u8],
     output: &mut [u8],
     work: &mut [u8],
 ) -> u64
-    ensures { λ r. ⌜ LayBytesPacked (now (sheet .entry)) (now (strip .entry)) (now (output .entry)) (now (work .entry)) r (now (strip .exit)) (now (output .exit)) (now (work .exit)) ⌝ }
+    ensures { λ r. ⌜ LayBytesPacked (now (sheet .entry)) gap (now (strip .entry)) (now (output .entry)) (now (work .entry)) r (now (strip .exit)) (now (output .exit)) (now (work .exit)) ⌝ }
 {
-    let a = bytecalls::lay_bytes(sheet, strip, output, work);
+    let a = bytecalls::lay_bytes(sheet, gap, strip, output, work);
     packing::pack_laying(a)
 }

@@ -17,18 +17,18 @@ use Rattle.defs.specs.Computing.Test.{firstFrom}
 use Rattle.defs.specs.Computing.Cells.{Rows, pieceRuns}
 use Rattle.defs.specs.Computing.Search.{freeb, dropN, position, firstFree}
 use Rattle.geom.proofs.Stretches.{Valid, among-of, of-among}
-use Rattle.geom.proofs.Checks.{runs-apart}
+use Rattle.geom.proofs.PieceCells.{runs-apart, runs-valid}
 use Rattle.laws.proofs.Tests.{not-decides, decides-by}
 use Rattle.tables.specs.Flat.{tableOf, Laid}
 use Rattle.tables.specs.Piece.{runColumn, Stands}
 use Rattle.tables.proofs.Flats.{in-flat, in-columns, table-flat}
 use Rattle.tables.proofs.PieceWords.{piece-rows, piece-runs}
-use Rattle.tables.proofs.FreeTest.{Shares, test-by-column, dropN-at, runs-valid}
+use Rattle.tables.proofs.FreeTest.{Shares, test-by-column, dropN-at}
 use Rattle.laws.proofs.First.{first-of, none-of}
 use Rattle.walk.specs.declared.Spot.the-variants.{Found, None}
 use Rattle.walk.specs.Free.{Frame, FreeTo, NoHeight, Searched}
 
-module _ {f l h r : List ℕ} {W N n p : ℕ} (o : List ℕ) (t R : ℕ) (laid : Laid f l h W N n) (stands : Stands (pieceRuns o t R) r p) where
+module _ {f l h r : List ℕ} {W N n p : ℕ} (o : List ℕ) (t R g : ℕ) (small : g ≤ 400) (laid : Laid f l h W N n) (stands : Stands (pieceRuns o t R g) r p) where
   abbrev wide : ℕ
   wide = columnsFor (extentX o t) R
 
@@ -36,63 +36,64 @@ module _ {f l h r : List ℕ} {W N n p : ℕ} (o : List ℕ) (t R : ℕ) (laid :
   tall = extentY o t
 
   pub frame-of : Frame f l h r N W p wide tall
-  frame-of = record { count = n; table = laid; piece = piece-runs o t R r p stands }
+  frame-of =
+      record { count = n; table = laid; reach = _; rows = _; piece = piece-runs o t R g r p stands; over = omega arith }
 
   abbrev held : List (List Rows)
   held = tableOf f l h N
 
   abbrev test : ℕ → ℕ → Bool
-  test c y = freeb y (pieceRuns o t R) (dropN c held)
+  test c y = freeb y (pieceRuns o t R g) (dropN c held)
 
   -- a row that the piece's column i shares with column c + i at height y
   abbrev Shared : ℕ → ℕ → ℕ → Type 0
-  Shared c y i = Shares y (getD (pieceRuns o t R) i []) (getD (dropN c held) i [])
+  Shared c y i = Shares y (getD (pieceRuns o t R g) i []) (getD (dropN c held) i [])
 
-  free-apart : (c y : ℕ) → FreeTo f l h r c y p → (i : ℕ) → ¬ Shared c y i
+  free-apart : (c y : ℕ) → FreeTo f l h r N c y p → (i : ℕ) → ¬ Shared c y i
   free-apart c y free i s =
-      let run = piece-rows stands (runs-apart o t R) i (s .0) .0 (of-among _ (s .0) (s .1)) in
+      let run = piece-rows stands (runs-apart o t R g) i (s .0) .0 (of-among _ (s .0) (s .1)) in
       let taken = of-among _ (s .0 + y) (rw dropN-at at (s .2)) in
       let e : s .0 + y ≡ y + s .0 = omega arith in
-      free .clear (run .which) (run .to) (s .0) (run .low) (run .high)
+      let here : c + runColumn r (run .which) < N = rw (run .column) (in-columns f l h (c + i) (s .0 + y) taken) in
+      free .clear (run .which) (run .to) here (s .0) (run .low) (run .high)
       (rw (run .column, sym e) (in-flat (laid .flat) (in-columns f l h (c + i) (s .0 + y) taken) (s .0 + y) .1 taken))
 
-  apart-free : (c y : ℕ) → c + wide ≤ N → ((i : ℕ) → ¬ Shared c y i) → FreeTo f l h r c y p
-  apart-free c y fits apart =
+  apart-free : (c y : ℕ) → ((i : ℕ) → ¬ Shared c y i) → FreeTo f l h r N c y p
+  apart-free c y apart =
       record {
         clear =
-            λ m l j low high taken.
+            λ m l here j low high taken.
             let own =
-            piece-rows stands (runs-apart o t R) (runColumn r m) j .1
+            piece-rows stands (runs-apart o t R g) (runColumn r m) j .1
             (record { which = m; from = omega arith; to = l; column = refl; low = low; high = high }) in
-            let here : c + runColumn r m < N = omega (arith, frame-of .piece .wide m l) in
             let e : j + y ≡ y + j = omega arith in
             apart (runColumn r m)
             (j, among-of _ j own, rw (dropN-at, e) (among-of _ (y + j) (in-flat (laid .flat) here (y + j) .0 taken)));
       }
 
   -- a position is free exactly when its test passes
-  pub free-is : (c y : ℕ) → c + wide ≤ N → FreeTo f l h r c y p ↔ (test c y ≡ true)
+  pub free-is : (c y : ℕ) → c + wide ≤ N → FreeTo f l h r N c y p ↔ (test c y ≡ true)
   free-is c y fits =
       Iff·symm
-      (decides-by (apart-free c y fits) (free-apart c y)
-      (test-by-column y (pieceRuns o t R) (dropN c held) (runs-valid o t R)
+      (decides-by (apart-free c y) (free-apart c y)
+      (test-by-column y (pieceRuns o t R g) (dropN c held) (runs-valid o t R g)
       (λ i. subst Valid (sym (dropN-at c held i)) (table-flat laid .valid (c + i)))))
 
   abbrev at-height : ℕ → ℕ → Option Position
   at-height c y = cond (test c y) (some (position t c y)) none
 
-  found-at : (c y : ℕ) → c + wide ≤ N → FreeTo f l h r c y p → at-height c y ≡ some (position t c y)
+  found-at : (c y : ℕ) → c + wide ≤ N → FreeTo f l h r N c y p → at-height c y ≡ some (position t c y)
   found-at c y fits free = rw (free-is c y fits .0 free)
 
-  none-at : (c y : ℕ) → c + wide ≤ N → ¬ FreeTo f l h r c y p → at-height c y ≡ none
+  none-at : (c y : ℕ) → c + wide ≤ N → ¬ FreeTo f l h r N c y p → at-height c y ≡ none
   none-at c y fits taken =
       ap (λ (b : Bool). cond b (some (position t c y)) none) (not-true (test c y) (not-decides (Iff·symm (free-is c y fits)) .1 taken))
 
-  none-in : (c : ℕ) → c + wide ≤ N → NoHeight f l h r W p tall c → firstFrom (at-height c) 0 (W + 1 - tall) ≡ none
+  none-in : (c : ℕ) → c + wide ≤ N → NoHeight f l h r N W p tall c → firstFrom (at-height c) 0 (W + 1 - tall) ≡ none
   none-in c fits no-height = none-of (at-height c) 0 _ (λ y a b. none-at c y fits (no-height .none y (omega arith)))
 
   pub found-is : {c y : ℕ} → Searched f l h r N W p wide tall (Found c y) →
-      firstFree W R N held o t ≡ some (position t c y)
+      firstFree W R N g held o t ≡ some (position t c y)
   unfolding firstFree
   found-is {c} {y} spot =
       first-of (λ c. firstFrom (at-height c) 0 (W + 1 - tall)) 0 _ (position t c y)
@@ -112,6 +113,6 @@ module _ {f l h r : List ℕ} {W N n p : ℕ} (o : List ℕ) (t R : ℕ) (laid :
         before = λ b a u. none-in b (omega (arith, spot .fits)) (spot .least b u);
       })
 
-  pub none-is : Searched f l h r N W p wide tall None → firstFree W R N held o t ≡ none
+  pub none-is : Searched f l h r N W p wide tall None → firstFree W R N g held o t ≡ none
   unfolding firstFree
   none-is no-spot = none-of _ 0 _ (λ c a u. none-in c (omega arith) (no-spot c (omega arith)))

@@ -1,7 +1,7 @@
 // The search for a piece's least free position in one turn: column by column, and in a column from height 0 on by jumps.
 
 ghost use Prim.Native.Nat.{_+_, _-_, _≤_, _<_};
-ghost use Rattle.walk.specs.Free.{Frame, GoesOn, Walked, Searched};
+ghost use Rattle.walk.specs.Free.{Frame, InColumns, Before, GoesOn, Walked, Searched};
 use tries::Tried;
 
 pub enum Height {
@@ -41,7 +41,39 @@ fn go_on(k: usize, y: u16, stay: u16, top: u16) -> Next
     }
 }
 
-// The least free height in column c. Runs that stay free up to a height are not tried again until a jump goes above it.
+// How many of the p runs are in columns before w, looked for from the last one on.
+fn count_before(runs: &[u16], p: usize, w: usize) -> usize
+    requires { ⌜ InColumns (now runs) p ⌝ }
+    ensures { λ q. ⌜ Before (now (runs .entry)) p w q ⌝ }
+{
+    let mut q = p;
+    while 0 < q {
+        let k = q - 1;
+        if (runs[3 * k] as usize) < w {
+            return q;
+        }
+        q = k;
+    }
+    q
+}
+
+// How many of the p runs are in columns before w. They stand by column, so these are the first ones, and mostly all: that is asked first,
+// and apart, so that a walk has no more to keep in registers.
+pub fn runs_before(runs: &[u16], p: usize, w: usize) -> usize
+    requires { ⌜ InColumns (now runs) p ⌝ }
+    ensures { λ q. ⌜ Before (now (runs .entry)) p w q ⌝ }
+{
+    if 0 < p {
+        let k = p - 1;
+        if (runs[3 * k] as usize) < w {
+            return p;
+        }
+    }
+    count_before(runs, p, w)
+}
+
+// The least free height in column c; what goes past the last column or the top does not count. Runs that stay free up to a height are not
+// tried again until a jump goes above it.
 pub fn walk_column(
     first: &[u16],
     lows: &[u16],
@@ -51,11 +83,12 @@ pub fn walk_column(
     c: usize,
 ) -> Height
     requires { ⌜ Frame (now first) (now lows) (now highs) (now runs) (s .columns) (s .width) (s .runs) (s .wide) (s .tall) ⌝
-        ∗ ⌜ (c + s .wide ≤ s .columns) × (s .tall ≤ s .width) ⌝ }
-    ensures { λ a. ⌜ Walked (now (first .entry)) (now (lows .entry)) (now (highs .entry)) (now (runs .entry)) (s .width) (s .runs) (s .tall) c a ⌝ }
+        ∗ ⌜ (c + s .wide ≤ s .columns) × (s .tall ≤ s .width) × (s .width ≤ 16000) ⌝ }
+    ensures { λ a. ⌜ Walked (now (first .entry)) (now (lows .entry)) (now (highs .entry)) (now (runs .entry)) (s .columns) (s .width) (s .runs) (s .tall) c a ⌝ }
 {
     let top = s.width - s.tall;
-    let p = s.runs;
+    let n = s.columns;
+    let p = runs_before(runs, s.runs, n - c);
     let mut y: u16 = 0;
     let mut k = 0;
     let mut stay = top;
@@ -84,7 +117,8 @@ pub fn walk_column(
 
 // The least free column, and the least free height in it.
 pub fn walk_turn(first: &[u16], lows: &[u16], highs: &[u16], runs: &[u16], s: Search) -> Spot
-    requires { ⌜ Frame (now first) (now lows) (now highs) (now runs) (s .columns) (s .width) (s .runs) (s .wide) (s .tall) ⌝ }
+    requires { ⌜ Frame (now first) (now lows) (now highs) (now runs) (s .columns) (s .width) (s .runs) (s .wide) (s .tall) ⌝
+        ∗ ⌜ s .width ≤ 16000 ⌝ }
     ensures { λ a. ⌜ Searched (now (first .entry)) (now (lows .entry)) (now (highs .entry)) (now (runs .entry)) (s .columns) (s .width) (s .runs) (s .wide) (s .tall) a ⌝ }
 {
     if s.width < s.tall {

@@ -9,7 +9,7 @@ use Rattle.defs.specs.declared.Refusal.{Refusal}
 use Rattle.defs.specs.declared.Position.{Position}
 use Rattle.defs.specs.declared.Placing.{Placing}
 use Rattle.defs.specs.declared.Placing.the-variants.{Placed, Refused}
-use Rattle.defs.specs.Meaning.Strip.{widthOf, resolutionOf, columnsOf}
+use Rattle.defs.specs.Meaning.Strip.{widthOf, resolutionOf, columnsOf, gapOf}
 use Rattle.defs.specs.Computing.Words.{wellFormedb, recordsOf, written}
 use Rattle.defs.specs.Computing.Calls.{refusal, placeAnswer, commitAnswer, PlaceLeaves}
 use Rattle.tables.specs.Flat.{tableOf}
@@ -19,16 +19,16 @@ use Rattle.wanted.specs.declared.Wanted.{Wanted}
 use Rattle.wanted.specs.declared.Wanted.the-variants.{Best, At}
 use Rattle.wanted.specs.Answers.{answerOn, answerTo, OnTable, Looked, Put}
 
-module _ {f l h f' l' h' o : List ℕ} {W R N Q words : ℕ} {w : Wanted} {a : Placing} where
-  pub best : {mask : ℕ} → w ≡ Best mask → PlacedOn f l h f' l' h' o W R N Q mask words a → OnTable f l h f' l' h' o W R N Q w words a
+module _ {f l h f' l' h' o : List ℕ} {W R N g Q words : ℕ} {w : Wanted} {a : Placing} where
+  pub best : {mask : ℕ} → w ≡ Best mask → PlacedOn f l h f' l' h' o W R N g Q mask words a → OnTable f l h f' l' h' o W R N g Q w words a
   unfolding answerOn
   best e x =
-      subst (λ (v : Wanted). OnTable f l h f' l' h' o W R N Q v words a) (sym e) (record { answer = x .answer; next = x .next })
+      subst (λ (v : Wanted). OnTable f l h f' l' h' o W R N g Q v words a) (sym e) (record { answer = x .answer; next = x .next })
 
-  pub at : {p : Position} → w ≡ At p → CommittedOn f l h f' l' h' o W R N Q p words a → OnTable f l h f' l' h' o W R N Q w words a
+  pub at : {p : Position} → w ≡ At p → CommittedOn f l h f' l' h' o W R N g Q p words a → OnTable f l h f' l' h' o W R N g Q w words a
   unfolding answerOn
   at e x =
-      subst (λ (v : Wanted). OnTable f l h f' l' h' o W R N Q v words a) (sym e) (record { answer = x .answer; next = x .next })
+      subst (λ (v : Wanted). OnTable f l h f' l' h' o W R N g Q v words a) (sym e) (record { answer = x .answer; next = x .next })
 
 -- question 5
 pub ill-refused : (w : Wanted) (s o : List ℕ) (words : ℕ) → wellFormedb s ≡ false → answerTo w s o words ≡ Refused (refusal 5 0)
@@ -46,7 +46,7 @@ not-formed {s} {o} w {words} e q =
 
 module _ {s o f l h : List ℕ} {w : Wanted} {words : ℕ} where
   pub put-placed : {p : Position} {s' : List ℕ} → Looked s o w words (Placed p) f l h →
-      s' ≡ written (widthOf s) (resolutionOf s) (columnsOf s) (recordsOf (columnsOf s) (length s)) (tableOf f l h (columnsOf s)) →
+      s' ≡ written (widthOf s) (resolutionOf s) (columnsOf s) (gapOf s) (recordsOf (columnsOf s) (length s)) (tableOf f l h (columnsOf s)) →
       Put s o w words (Placed p) s'
   unfolding PlaceLeaves
   put-placed {p} x e = record { answer = x .answer; leaves = rw e (x .next p refl .left) }

@@ -8,7 +8,7 @@ use lib.ListN.{length, getD}
 use Rattle.defs.specs.declared.Position.{Position}
 use Rattle.defs.specs.declared.Placing.{Placing}
 use Rattle.defs.specs.Meaning.Limits.{leadingWords}
-use Rattle.defs.specs.Meaning.Strip.{widthOf, resolutionOf, columnsOf}
+use Rattle.defs.specs.Meaning.Strip.{widthOf, resolutionOf, columnsOf, gapOf}
 use Rattle.defs.specs.Computing.Cells.{Rows}
 use Rattle.defs.specs.Computing.Words.{recordsOf, columnsRuns, written}
 use Rattle.defs.specs.Computing.Search.{entered}
@@ -39,6 +39,9 @@ module _ {s f l h : List ℕ} {t : ℕ} (held : Holds-runs s f l h t) where
   abbrev N : ℕ
   N = columnsOf s
 
+  abbrev g : ℕ
+  g = gapOf s
+
   abbrev Q : ℕ
   Q = recordsOf (columnsOf s) (length s)
 
@@ -49,11 +52,12 @@ module _ {s f l h : List ℕ} {t : ℕ} (held : Holds-runs s f l h t) where
       laid-of (held .flat) (λ k b. rw (held .table) (runs-apart s w k b))
       (λ k y e. table-of s w .below k y (subst (λ (c : List (List Rows)). In c k y) (held .table) e))
 
-  pub tabled : {f' l' h' : List ℕ} {q : ℕ} → q ≡ Q → 4097 ≤ length f' → 24001 ≤ length l' → 24001 ≤ length h' → Tabled f l h f' l' h' W R N q
+  pub tabled : {f' l' h' : List ℕ} {q : ℕ} → q ≡ Q → 4097 ≤ length f' → 24001 ≤ length l' → 24001 ≤ length h' → Tabled f l h f' l' h' W R N g q
   tabled e a b c =
       let w = formed s (held .well-formed) in
       record {
         limits = w .limits;
+        gap = w .gap;
         records = omega (arith, w .long .records .at-most);
         count = t;
         table = laid;
@@ -69,14 +73,14 @@ module _ {s f l h : List ℕ} {t : ℕ} (held : Holds-runs s f l h t) where
   columns-few : N ≤ 4096
   columns-few = formed s (held .well-formed) .limits .columns .at-most
 
-  table-is : (w : Wanted) (o : List ℕ) (words : ℕ) → answerOn w W R N Q (tableOf f l h N) o words ≡ answerTo w s o words
+  table-is : (w : Wanted) (o : List ℕ) (words : ℕ) → answerOn w W R N g Q (tableOf f l h N) o words ≡ answerTo w s o words
   unfolding answerOn answerTo placeAnswer commitAnswer
   table-is (Best mask) o words =
-      rw (held .well-formed) (ap (λ (c : List (List Rows)). placeOn W R N Q c o mask words) (held .table))
+      rw (held .well-formed) (ap (λ (c : List (List Rows)). placeOn W R N g Q c o mask words) (held .table))
   table-is (At p) o words =
-      rw (held .well-formed) (ap (λ (c : List (List Rows)). placedAt p (commitOn W R N Q c o p words)) (held .table))
+      rw (held .well-formed) (ap (λ (c : List (List Rows)). placedAt p (commitOn W R N g Q c o p words)) (held .table))
 
-  module _ {f' l' h' o : List ℕ} (p : Position) (next : Next f l h f' l' h' o W R N Q p) where
+  module _ {f' l' h' o : List ℕ} (p : Position) (next : Next f l h f' l' h' o W R N g Q p) where
     n-is : getD f' N 0 ≡ next .count
     n-is = next .laid .flat .last
 
@@ -94,8 +98,8 @@ module _ {s f l h : List ℕ} {t : ℕ} (held : Holds-runs s f l h t) where
     next-few : getD f' N 0 ≤ 16000
     next-few = omega (arith, n-is, next .few, formed s (held .well-formed) .long .records .at-most)
 
-    held-is : tableOf f' l' h' N ≡ entered W R (columnsRuns s) o p
-    held-is = next .is ∙ ap (λ (c : List (List Rows)). entered W R c o p) (held .table)
+    held-is : tableOf f' l' h' N ≡ entered W R g (columnsRuns s) o p
+    held-is = next .is ∙ ap (λ (c : List (List Rows)). entered W R g c o p) (held .table)
 
     writable : Writable W N Q (tableOf f' l' h' N)
     writable =
@@ -106,20 +110,20 @@ module _ {s f l h : List ℕ} {t : ℕ} (held : Holds-runs s f l h t) where
           fits = omega (arith, count-is (next .laid .flat), next .few);
         }
 
-    left : Left W R N (length s) (λ k. getD (entered W R (columnsRuns s) o p) k []) (written W R N Q (tableOf f' l' h' N))
+    left : Left W R N g (length s) (λ k. getD (entered W R g (columnsRuns s) o p) k []) (written W R N g Q (tableOf f' l' h' N))
     left =
         let w = formed s (held .well-formed) in
-        subst (λ (c : List (List Rows)). Left W R N (length s) (λ k. getD c k []) (written W R N Q (tableOf f' l' h' N))) held-is
-        (subst (λ (n : ℕ). Left W R N n (λ k. getD (tableOf f' l' h' N) k []) (written W R N Q (tableOf f' l' h' N)))
-        (sym (w .long .words-are)) (written-left W R N Q (tableOf f' l' h' N) (w .limits) (w .long .records) writable))
+        subst (λ (c : List (List Rows)). Left W R N g (length s) (λ k. getD c k []) (written W R N g Q (tableOf f' l' h' N))) held-is
+        (subst (λ (n : ℕ). Left W R N g n (λ k. getD (tableOf f' l' h' N) k []) (written W R N g Q (tableOf f' l' h' N)))
+        (sym (w .long .words-are)) (written-left W R N g Q (tableOf f' l' h' N) (w .limits) (w .gap) (w .long .records) writable))
 
     entered-of : Entered s o p f' l' h'
     entered-of = record { leading = leading; flat = next-flat; few = next-few; room = room; left = left }
 
-  pub looked : {f' l' h' o : List ℕ} {w : Wanted} {words q : ℕ} {a : Placing} → q ≡ Q → OnTable f l h f' l' h' o W R N q w words a →
+  pub looked : {f' l' h' o : List ℕ} {w : Wanted} {words q : ℕ} {a : Placing} → q ≡ Q → OnTable f l h f' l' h' o W R N g q w words a →
       Looked s o w words a f' l' h'
   looked {f'} {l'} {h'} {o} {w} {words} e on =
       record {
-        answer = on .answer ∙ ap (λ (n : ℕ). answerOn w W R N n (tableOf f l h N) o words) e ∙ table-is w o words;
-        next = λ p t. entered-of p (rw e at (subst (NextIf f l h f' l' h' o W R N _) t (on .next)));
+        answer = on .answer ∙ ap (λ (n : ℕ). answerOn w W R N g n (tableOf f l h N) o words) e ∙ table-is w o words;
+        next = λ p t. entered-of p (rw e at (subst (NextIf f l h f' l' h' o W R N g _) t (on .next)));
       }

@@ -7,7 +7,7 @@ use Rattle.defs.specs.declared.Position.{Position}
 use Rattle.defs.specs.declared.Placing.{Placing}
 use Rattle.defs.specs.declared.Placing.the-variants.{Placed}
 use Rattle.defs.specs.Meaning.Limits.{leadingWords}
-use Rattle.defs.specs.Meaning.Strip.{widthOf, resolutionOf, columnsOf}
+use Rattle.defs.specs.Meaning.Strip.{widthOf, resolutionOf, columnsOf, gapOf}
 use Rattle.defs.specs.Computing.Cells.{Rows}
 use Rattle.defs.specs.Computing.Words.{recordsOf, written}
 use Rattle.defs.specs.Computing.Calls.{placeOn, placeAnswer, commitOn, commitAnswer, EnteredLeaves, PlaceLeaves}
@@ -19,17 +19,17 @@ use Rattle.wanted.specs.declared.Wanted.{Wanted}
 use Rattle.wanted.specs.declared.Wanted.the-variants.{Best, At}
 
 -- the answers of place and of commit, on a strip that holds these runs and on a strip's words
-unfoldable pub answerOn : Wanted → ℕ → ℕ → ℕ → ℕ → List (List Rows) → List ℕ → ℕ → Placing
-answerOn (Best mask) W R N Q held o words = placeOn W R N Q held o mask words
-answerOn (At p) W R N Q held o words = placedAt p (commitOn W R N Q held o p words)
+unfoldable pub answerOn : Wanted → ℕ → ℕ → ℕ → ℕ → ℕ → List (List Rows) → List ℕ → ℕ → Placing
+answerOn (Best mask) W R N g Q held o words = placeOn W R N g Q held o mask words
+answerOn (At p) W R N g Q held o words = placedAt p (commitOn W R N g Q held o p words)
 
 unfoldable pub answerTo : Wanted → List ℕ → List ℕ → ℕ → Placing
 answerTo (Best mask) s o words = placeAnswer s o mask words
 answerTo (At p) s o words = placedAt p (commitAnswer s o p words)
 
-pub record OnTable (f l h f' l' h' o : List ℕ) (W R N Q : ℕ) (w : Wanted) (words : ℕ) (a : Placing) : Type 0 where
-  pub answer : a ≡ answerOn w W R N Q (tableOf f l h N) o words
-  pub next : NextIf f l h f' l' h' o W R N Q a
+pub record OnTable (f l h f' l' h' o : List ℕ) (W R N g Q : ℕ) (w : Wanted) (words : ℕ) (a : Placing) : Type 0 where
+  pub answer : a ≡ answerOn w W R N g Q (tableOf f l h N) o words
+  pub next : NextIf f l h f' l' h' o W R N g Q a
 
 -- a table to be written to strip s, with outline o at p
 pub record Entered (s o : List ℕ) (p : Position) (f l h : List ℕ) : Type 0 where
@@ -39,7 +39,7 @@ pub record Entered (s o : List ℕ) (p : Position) (f l h : List ℕ) : Type 0 w
   pub room : Room (columnsOf s) (getD f (columnsOf s) 0) (length s)
   pub left :
       EnteredLeaves s o p
-      (written (widthOf s) (resolutionOf s) (columnsOf s) (recordsOf (columnsOf s) (length s)) (tableOf f l h (columnsOf s)))
+      (written (widthOf s) (resolutionOf s) (columnsOf s) (gapOf s) (recordsOf (columnsOf s) (length s)) (tableOf f l h (columnsOf s)))
 
 pub record Looked (s o : List ℕ) (w : Wanted) (words : ℕ) (a : Placing) (f l h : List ℕ) : Type 0 where
   pub answer : a ≡ answerTo w s o words

@@ -21,6 +21,7 @@ pub enum Wanted {
 // with the piece there.
 fn on_table(
     g: Figures,
+    gap: u16,
     q: usize,
     first: &[u16],
     lows: &[u16],
@@ -32,12 +33,13 @@ fn on_table(
     lows2: &mut [u16],
     highs2: &mut [u16],
 ) -> Placing
-    requires { ⌜ Tabled (now first) (now lows) (now highs) (now first2) (now lows2) (now highs2) (g .width) (g .resolution) (g .columns) q ⌝ }
-    ensures { λ a. ⌜ OnTable (now (first .entry)) (now (lows .entry)) (now (highs .entry)) (now (first2 .exit)) (now (lows2 .exit)) (now (highs2 .exit)) (now (o .entry)) (g .width) (g .resolution) (g .columns) q wanted (length (now (work .entry))) a ⌝ }
+    requires { ⌜ Tabled (now first) (now lows) (now highs) (now first2) (now lows2) (now highs2) (g .width) (g .resolution) (g .columns) gap q ⌝ }
+    ensures { λ a. ⌜ OnTable (now (first .entry)) (now (lows .entry)) (now (highs .entry)) (now (first2 .exit)) (now (lows2 .exit)) (now (highs2 .exit)) (now (o .entry)) (g .width) (g .resolution) (g .columns) gap q wanted (length (now (work .entry))) a ⌝ }
 {
     match wanted {
         Wanted::Best(mask) => placeon::place_on(
             g,
+            gap,
             q,
             first,
             lows,
@@ -50,9 +52,20 @@ fn on_table(
             lows2,
             highs2,
         ),
-        Wanted::At(p) => {
-            commiton::commit_on(g, q, first, lows, highs, o, p, work, first2, lows2, highs2)
-        }
+        Wanted::At(p) => commiton::commit_on(
+            g,
+            gap,
+            q,
+            first,
+            lows,
+            highs,
+            o,
+            p,
+            work,
+            first2,
+            lows2,
+            highs2,
+        ),
     }
 }
 
@@ -82,6 +95,7 @@ fn look_decoded(
     let q = limits::records_of(g.columns, strip.len());
     on_table(
         g,
+        strip[limits::GAP],
         q,
         first,
         lows,
@@ -149,8 +163,9 @@ fn put_with(
                 resolution: strip[limits::RESOLUTION],
                 columns: strip[limits::COLUMNS],
             };
+            let gap = strip[limits::GAP];
             let n = first2[g.columns as usize] as usize;
-            encode::encode(strip, g, first2, lows2, highs2, n);
+            encode::encode(strip, g, gap, first2, lows2, highs2, n);
             Placing::Placed(p)
         }
         Placing::Refused(r) => Placing::Refused(r),

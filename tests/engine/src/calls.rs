@@ -1,15 +1,17 @@
 //! The public calls, as include/vikelodu.h declares them. Nothing checks these
-//! declarations against the engine, so they are few and plain.
+//! declarations against the engine, so they are few and plain. Names that end in _4
+//! are of the calls that request S-4 gave a gap.
 
 use reference::retrace::EdgePair;
 use reference::{Figures, Position, Refusal, Totals};
 
 mod exported {
     extern "C" {
-        pub fn vikelodu_open(
+        pub fn vikelodu_open_4(
             width: u16,
             resolution: u16,
             columns: u16,
+            gap: u16,
             strip: *mut u16,
             strip_words: usize,
         ) -> u64;
@@ -42,11 +44,12 @@ mod exported {
             work: *mut u16,
             work_words: usize,
         ) -> u64;
-        pub fn vikelodu_cover(
+        pub fn vikelodu_cover_4(
             outline: *const u16,
             outline_words: usize,
             turn: u16,
             resolution: u16,
+            gap: u16,
             output: *mut u16,
             output_words: usize,
         ) -> u64;
@@ -65,9 +68,10 @@ mod exported {
             output: *mut u8,
             output_bytes: usize,
         ) -> u64;
-        pub fn vikelodu_lay(
+        pub fn vikelodu_lay_4(
             sheet: *const u8,
             sheet_bytes: usize,
+            gap: u16,
             strip: *mut u16,
             strip_words: usize,
             output: *mut u16,
@@ -88,10 +92,11 @@ mod exported {
             output: *mut u8,
             output_bytes: usize,
         ) -> u64;
-        pub fn vikelodu_open_bytes(
+        pub fn vikelodu_open_bytes_4(
             width: u16,
             resolution: u16,
             columns: u16,
+            gap: u16,
             strip: *mut u8,
             strip_bytes: usize,
         ) -> u64;
@@ -124,9 +129,10 @@ mod exported {
             work: *mut u8,
             work_bytes: usize,
         ) -> u64;
-        pub fn vikelodu_lay_bytes(
+        pub fn vikelodu_lay_bytes_4(
             sheet: *const u8,
             sheet_bytes: usize,
+            gap: u16,
             strip: *mut u8,
             strip_bytes: usize,
             output: *mut u8,
@@ -190,9 +196,9 @@ fn laid(answer: u64) -> Result<Totals, Refusal> {
     })
 }
 
-pub fn open(w: u16, r: u16, n: u16, strip: &mut [u16]) -> Result<(), Refusal> {
+pub fn open(w: u16, r: u16, n: u16, g: u16, strip: &mut [u16]) -> Result<(), Refusal> {
     // Sound: the function asks nothing of its caller, and reads and writes only what the slice lends.
-    bare(unsafe { exported::vikelodu_open(w, r, n, strip.as_mut_ptr(), strip.len()) })
+    bare(unsafe { exported::vikelodu_open_4(w, r, n, g, strip.as_mut_ptr(), strip.len()) })
 }
 
 pub fn place(
@@ -257,14 +263,21 @@ pub fn commit(
     })
 }
 
-pub fn cover(outline: &[u16], turn: u16, r: u16, output: &mut [u16]) -> Result<u32, Refusal> {
+pub fn cover(
+    outline: &[u16],
+    turn: u16,
+    r: u16,
+    g: u16,
+    output: &mut [u16],
+) -> Result<u32, Refusal> {
     // Sound, as above.
     wide(unsafe {
-        exported::vikelodu_cover(
+        exported::vikelodu_cover_4(
             outline.as_ptr(),
             outline.len(),
             turn,
             r,
+            g,
             output.as_mut_ptr(),
             output.len(),
         )
@@ -306,15 +319,17 @@ pub fn write(figures: Figures, list: &[u16], output: &mut [u8]) -> Result<u32, R
 
 pub fn lay(
     sheet: &[u8],
+    g: u16,
     strip: &mut [u16],
     output: &mut [u16],
     work: &mut [u16],
 ) -> Result<Totals, Refusal> {
     // Sound, as above. The slices share nothing: three are lent to be written, the fourth to be read.
     laid(unsafe {
-        exported::vikelodu_lay(
+        exported::vikelodu_lay_4(
             sheet.as_ptr(),
             sheet.len(),
+            g,
             strip.as_mut_ptr(),
             strip.len(),
             output.as_mut_ptr(),
@@ -359,9 +374,9 @@ pub fn write_path(outline: &[u16], output: &mut [u8]) -> Result<u32, Refusal> {
     })
 }
 
-pub fn open_bytes(w: u16, r: u16, n: u16, strip: &mut [u8]) -> Result<(), Refusal> {
+pub fn open_bytes(w: u16, r: u16, n: u16, g: u16, strip: &mut [u8]) -> Result<(), Refusal> {
     // Sound, as above: bytes stand at any address.
-    bare(unsafe { exported::vikelodu_open_bytes(w, r, n, strip.as_mut_ptr(), strip.len()) })
+    bare(unsafe { exported::vikelodu_open_bytes_4(w, r, n, g, strip.as_mut_ptr(), strip.len()) })
 }
 
 pub fn place_bytes(
@@ -428,15 +443,17 @@ pub fn commit_bytes(
 
 pub fn lay_bytes(
     sheet: &[u8],
+    g: u16,
     strip: &mut [u8],
     output: &mut [u8],
     work: &mut [u8],
 ) -> Result<Totals, Refusal> {
     // Sound, as above.
     laid(unsafe {
-        exported::vikelodu_lay_bytes(
+        exported::vikelodu_lay_bytes_4(
             sheet.as_ptr(),
             sheet.len(),
+            g,
             strip.as_mut_ptr(),
             strip.len(),
             output.as_mut_ptr(),

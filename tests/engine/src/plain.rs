@@ -98,8 +98,9 @@ fn slab(spanning: &[&Edge], a: i64, b: i64, rows: &mut Vec<(i64, i64)>) {
     }
 }
 
-/// The stretches of one column, joined and rising.
-fn column(all: &[Edge], cuts: &[i64], from: i64, to: i64, rows: &mut Vec<(i64, i64)>) {
+/// The stretches of the unit columns from the one to the other, joined and rising,
+/// each g rows higher.
+fn column(all: &[Edge], cuts: &[i64], (from, to): (i64, i64), g: i64, rows: &mut Vec<(i64, i64)>) {
     rows.clear();
     let mut a = from;
     while a < to {
@@ -123,10 +124,11 @@ fn column(all: &[Edge], cuts: &[i64], from: i64, to: i64, rows: &mut Vec<(i64, i
     rows.sort_unstable();
     let mut kept = 0;
     for i in 0..rows.len() {
-        if kept > 0 && rows[i].0 <= rows[kept - 1].1 {
-            rows[kept - 1].1 = rows[kept - 1].1.max(rows[i].1);
+        let (low, high) = (rows[i].0, rows[i].1 + g);
+        if kept > 0 && low <= rows[kept - 1].1 {
+            rows[kept - 1].1 = rows[kept - 1].1.max(high);
         } else {
-            rows[kept] = rows[i];
+            rows[kept] = (low, high);
             kept += 1;
         }
     }
@@ -168,18 +170,20 @@ impl Turned {
     /// Whether a cell is covered: all of it as one column has a run.
     pub fn covers_a_cell(&self) -> bool {
         let mut rows = Vec::new();
-        column(&self.edges, &self.cuts, 0, self.extent().0, &mut rows);
+        let all = (0, self.extent().0);
+        column(&self.edges, &self.cuts, all, 0, &mut rows);
         !rows.is_empty()
     }
 
-    /// The runs (column, low, high), by column then low.
-    pub fn runs(&self, r: u16) -> Vec<[u16; 3]> {
-        let (w, r) = (self.extent().0, i64::from(r));
+    /// The runs (column, low, high) with a gap, by column then low: those of the
+    /// unit columns in each column and of the g before it.
+    pub fn runs(&self, r: u16, g: u16) -> Vec<[u16; 3]> {
+        let (w, r, g) = (self.extent().0, i64::from(r), i64::from(g));
         let mut runs = Vec::new();
         let mut rows = Vec::new();
-        for i in 0..(w + r - 1) / r {
-            let to = ((i + 1) * r).min(w);
-            column(&self.edges, &self.cuts, i * r, to, &mut rows);
+        for i in 0..(w + g + r - 1) / r {
+            let window = ((i * r - g).max(0), ((i + 1) * r).min(w));
+            column(&self.edges, &self.cuts, window, g, &mut rows);
             runs.extend(
                 rows.iter()
                     .map(|&(low, high)| [i as u16, low as u16, high as u16]),
@@ -204,9 +208,18 @@ pub fn ask_7_and_8(outline: &[u16]) -> Result<(), Refusal> {
     Ok(())
 }
 
-pub fn cover(outline: &[u16], turn: u16, r: u16, output: &mut [u16]) -> Result<u32, Refusal> {
+pub fn cover(
+    outline: &[u16],
+    turn: u16,
+    r: u16,
+    g: u16,
+    output: &mut [u16],
+) -> Result<u32, Refusal> {
     if !(1..=400).contains(&r) {
         return Err(no(16, 0));
+    }
+    if g > 400 {
+        return Err(no(21, 0));
     }
     ask_7_and_8(outline)?;
     if turn > 3 {
@@ -216,7 +229,7 @@ pub fn cover(outline: &[u16], turn: u16, r: u16, output: &mut [u16]) -> Result<u
     if !piece.keeps_order() {
         return Err(no(10, 1));
     }
-    let runs = piece.runs(r);
+    let runs = piece.runs(r, g);
     if runs.is_empty() {
         return Err(no(11, 1));
     }

@@ -8,18 +8,19 @@ use reference::{Position, Refusal};
 /// A run of a column, rows low to high−1.
 type Stretch = (u16, u16);
 
-/// A strip that has passed questions 3 to 5, 16 and 17.
+/// A strip that has passed questions 3 to 5, 16, 17 and 21.
 pub struct Board {
     w: u16,
     r: u16,
     n: usize,
+    g: u16,
     q: usize,
     columns: Vec<Vec<Stretch>>,
     /// The runs of all columns.
     used: usize,
 }
 
-/// A piece in a turn.
+/// A piece in a turn, with the strip's gap.
 struct Piece {
     turn: u16,
     /// Columns wide.
@@ -29,21 +30,20 @@ struct Piece {
 }
 
 impl Piece {
-    fn new(turned: &Turned, turn: u16, r: u16) -> Piece {
+    fn new(turned: &Turned, turn: u16, r: u16, g: u16) -> Piece {
         let (w, h) = turned.extent();
         Piece {
             turn,
             wide: (w as usize).div_ceil(usize::from(r)),
             h: h as u16,
-            runs: turned.runs(r),
+            runs: turned.runs(r, g),
         }
     }
 
-    /// Its runs where it stands at c, y: the column, and rows low to high−1.
-    fn moved(&self, c: usize, y: u16) -> impl Iterator<Item = (usize, u16, u16)> + '_ {
-        self.runs
-            .iter()
-            .map(move |&[column, low, high]| (c + usize::from(column), y + low, y + high))
+    /// Its runs on the first n columns, by column.
+    fn runs_to(&self, n: usize) -> &[[u16; 3]] {
+        let beyond = self.runs.partition_point(|run| usize::from(run[0]) < n);
+        &self.runs[..beyond]
     }
 }
 
@@ -63,11 +63,12 @@ fn turns_of(mask: u16) -> impl Iterator<Item = u16> {
 }
 
 impl Board {
-    pub fn open(w: u16, r: u16, n: u16, q: usize) -> Board {
+    pub fn open(w: u16, r: u16, n: u16, g: u16, q: usize) -> Board {
         Board {
             w,
             r,
             n: usize::from(n),
+            g,
             q,
             columns: vec![Vec::new(); usize::from(n)],
             used: 0,
@@ -93,7 +94,7 @@ impl Board {
         work: usize,
     ) -> Result<Position, Refusal> {
         let pieces: Vec<Piece> = turns_of(mask)
-            .map(|turn| Piece::new(&Turned::new(outline, turn), turn, self.r))
+            .map(|turn| Piece::new(&Turned::new(outline, turn), turn, self.r, self.g))
             .collect();
         self.place_asked(&pieces, work)
     }
@@ -142,7 +143,7 @@ impl Board {
         }
         let pieces: Vec<Piece> = turned
             .iter()
-            .map(|(turn, turned)| Piece::new(turned, *turn, self.r))
+            .map(|(turn, turned)| Piece::new(turned, *turn, self.r, self.g))
             .collect();
         if pieces[0].runs.is_empty() {
             return Err(no(11, 1));
@@ -162,7 +163,8 @@ impl Board {
     /// again until a jump goes above it, as in the engine.
     fn least_height(&self, piece: &Piece, c: usize, top: u16) -> Option<u16> {
         let (mut y, mut stay, mut place) = (0, top, 0);
-        while let Some(&[column, low, high]) = piece.runs.get(place) {
+        let runs = piece.runs_to(self.n - c);
+        while let Some(&[column, low, high]) = runs.get(place) {
             let column = &self.columns[c + usize::from(column)];
             match column.get(above(column, y + low)) {
                 Some(met) if met.0 < y + high => {
@@ -184,20 +186,37 @@ impl Board {
         Some(y)
     }
 
+    /// The runs of the piece at c, y that lie on the strip, cut off at its top: the
+    /// column, and rows low to high−1.
+    fn moved<'a>(
+        &self,
+        piece: &'a Piece,
+        c: usize,
+        y: u16,
+    ) -> impl Iterator<Item = (usize, u16, u16)> + 'a {
+        let w = self.w;
+        piece
+            .runs_to(self.n - c)
+            .iter()
+            .map(move |&[column, low, high]| (c + usize::from(column), y + low, w.min(y + high)))
+            .filter(|run| run.1 < run.2)
+    }
+
     /// The runs of the strip with the piece: two that touch become one.
     fn used_after(&self, piece: &Piece, c: usize, y: u16) -> usize {
-        let mut touching = 0;
-        for (column, low, high) in piece.moved(c, y) {
+        let (mut entered, mut touching) = (0, 0);
+        for (column, low, high) in self.moved(piece, c, y) {
             let column = &self.columns[column];
             let place = above(column, low);
+            entered += 1;
             touching += usize::from(place > 0 && column[place - 1].1 == low);
             touching += usize::from(column.get(place).is_some_and(|run| run.0 == high));
         }
-        self.used + piece.runs.len() - touching
+        self.used + entered - touching
     }
 
     fn enter(&mut self, piece: &Piece, c: usize, y: u16) {
-        for (column, low, high) in piece.moved(c, y) {
+        for (column, low, high) in self.moved(piece, c, y) {
             let column = &mut self.columns[column];
             let place = above(column, low);
             let joins_below = place > 0 && column[place - 1].1 == low;

@@ -18,13 +18,13 @@ impl Table {
 
 type Record = [u16; 4];
 
-fn in_limits(w: u16, r: u16, n: u16) -> bool {
-    (1..=16_000).contains(&w) && (1..=400).contains(&r) && (1..=4_096).contains(&n)
+fn in_limits(w: u16, r: u16, n: u16, g: u16) -> bool {
+    (1..=16_000).contains(&w) && (1..=400).contains(&r) && (1..=4_096).contains(&n) && g <= 400
 }
 
 /// The heads and records of a strip of the right length.
 fn parts(strip: &[u16], n: u16) -> Option<(&[u16], &[Record])> {
-    let (heads, words) = strip.get(4..)?.split_at_checked(usize::from(n))?;
+    let (heads, words) = strip.get(5..)?.split_at_checked(usize::from(n))?;
     let (records, rest) = words.as_chunks();
     let fits = rest.is_empty() && (1..=16_000).contains(&records.len());
     fits.then_some((heads, records))
@@ -34,10 +34,10 @@ fn parts(strip: &[u16], n: u16) -> Option<(&[u16], &[Record])> {
 /// well formed. One flat vector took a quarter of the time of one for each column,
 /// and places made at once less than pushes.
 pub fn decode(strip: &[u16]) -> Option<Table> {
-    let &[w, r, n, first_free, ..] = strip else {
+    let &[w, r, n, first_free, g, ..] = strip else {
         return None;
     };
-    if !in_limits(w, r, n) {
+    if !in_limits(w, r, n, g) {
         return None;
     }
     let (heads, records) = parts(strip, n)?;
@@ -78,15 +78,15 @@ pub fn decode(strip: &[u16]) -> Option<Table> {
 
 /// The strip with these runs: records 1, 2, 3 by column then low, the free ones
 /// after them. Its length is right and has room for them.
-fn encode(strip: &mut [u16], w: u16, r: u16, n: u16, table: &Table) {
+fn encode(strip: &mut [u16], w: u16, r: u16, n: u16, g: u16, table: &Table) {
     let used = table.count();
-    let (leading, words) = strip.split_at_mut(4);
+    let (leading, words) = strip.split_at_mut(5);
     let (heads, words) = words.split_at_mut(usize::from(n));
     let (records, _) = words.as_chunks_mut();
     let q = records.len();
     let (taken, free) = records.split_at_mut(used);
     let first_free = if used < q { used + 1 } else { 0 };
-    leading.copy_from_slice(&[w, r, n, first_free as u16]);
+    leading.copy_from_slice(&[w, r, n, first_free as u16, g]);
     for (column, head) in heads.iter_mut().enumerate() {
         let (from, to) = (table.first[column], table.first[column + 1]);
         *head = if from < to { from + 1 } else { 0 };
@@ -119,8 +119,8 @@ pub fn write_columns(strip: &mut [u16], columns: &[Vec<(u16, u16)>]) {
         table.runs.extend_from_slice(column);
     }
     table.first.push(table.runs.len() as u16);
-    let (w, r, n) = (strip[0], strip[1], strip[2]);
-    encode(strip, w, r, n, &table);
+    let (w, r, n, g) = (strip[0], strip[1], strip[2], strip[4]);
+    encode(strip, w, r, n, g, &table);
 }
 
 /// Whether the strip was well formed; then it is written anew.
@@ -128,20 +128,20 @@ pub fn rewrite(strip: &mut [u16]) -> bool {
     let Some(table) = decode(strip) else {
         return false;
     };
-    let (w, r, n) = (strip[0], strip[1], strip[2]);
-    encode(strip, w, r, n, &table);
+    let (w, r, n, g) = (strip[0], strip[1], strip[2], strip[4]);
+    encode(strip, w, r, n, g, &table);
     true
 }
 
 /// Whether the figures and the length are right; then all columns are empty.
-pub fn open(w: u16, r: u16, n: u16, strip: &mut [u16]) -> bool {
-    if !in_limits(w, r, n) || parts(strip, n).is_none() {
+pub fn open(w: u16, r: u16, n: u16, g: u16, strip: &mut [u16]) -> bool {
+    if !in_limits(w, r, n, g) || parts(strip, n).is_none() {
         return false;
     }
     let table = Table {
         first: vec![0; usize::from(n) + 1],
         runs: Vec::new(),
     };
-    encode(strip, w, r, n, &table);
+    encode(strip, w, r, n, g, &table);
     true
 }

@@ -6,12 +6,13 @@
 use engine::data;
 use engine::guard::{End, Room};
 use reference::cells::stretches;
+use reference::distance::{too_close, Shape};
 use reference::figures::{no, NUMBERS};
 use reference::generate::outlines::zigzag_of;
 use reference::generate::{
-    any_mask, any_outline, change_words, commit_position, damaged_strip, random_runs, sound_mask,
-    sound_outline, sound_strip, strip_with, Call, CommitCall, CommitKind, Damage, MixedList,
-    PlaceCall, Random, StripFigures,
+    any_mask, any_outline, change_words, commit_position, damaged_strip, random_runs, small_gap,
+    sound_mask, sound_outline, sound_strip, strip_with, Call, CommitCall, CommitKind, Damage,
+    MixedList, PlaceCall, Random, StripFigures,
 };
 use reference::{runs, strip_runs, Position, Refusal};
 use std::fmt::Debug;
@@ -161,9 +162,9 @@ impl Both {
 
 /// A strip that the engine opened.
 fn opened(figures: StripFigures) -> Vec<u16> {
-    let StripFigures { w, r, n, q } = figures;
-    let mut strip = vec![0xFFFF; 4 + usize::from(n) + 4 * q];
-    assert_eq!(engine::open(w, r, n, &mut strip), Ok(()));
+    let StripFigures { w, r, n, g, q } = figures;
+    let mut strip = vec![0xFFFF; 5 + usize::from(n) + 4 * q];
+    assert_eq!(engine::open(w, r, n, g, &mut strip), Ok(()));
     strip
 }
 
@@ -196,8 +197,14 @@ fn committing(outline: &[u16], position: Position, work: usize) -> CommitCall {
 /// A list as its calls tell it, by their arguments and answers alone.
 struct Told {
     r: u16,
-    /// The cells that pieces have, column by column.
+    g: u16,
+    /// The cells that pieces have on the strip, column by column.
     taken: Vec<Vec<bool>>,
+    /// The pieces as their edges say it, without cells.
+    shapes: Vec<Shape>,
+    /// How many pairs of them there are, and how many would be too close with a gap
+    /// of one unit more.
+    pairs: [u32; 2],
     /// Commits at the answers of asks since the strip last changed, with their words.
     standing: Vec<CommitCall>,
     /// How many commits were at such an answer with no fewer words, and with fewer.
@@ -208,23 +215,43 @@ impl Told {
     fn new(figures: StripFigures) -> Told {
         Told {
             r: figures.r,
+            g: figures.g,
+            shapes: Vec::new(),
+            pairs: [0; 2],
             taken: vec![vec![false; usize::from(figures.w)]; usize::from(figures.n)],
             standing: Vec::new(),
             at_answers: [0; 2],
         }
     }
 
-    /// One piece more: no cell is in two.
+    /// One piece more: no cell is in two. Cells past the top or the end don't count.
     fn put(&mut self, outline: &[u16], position: Position) {
-        for (column, low, high) in runs(outline, position.turn, self.r) {
-            for row in low..high {
-                let column = &mut self.taken[usize::from(position.column + column)];
-                let cell = &mut column[usize::from(position.height + row)];
+        for (column, low, high) in runs(outline, position.turn, self.r, self.g) {
+            let place = usize::from(position.column + column);
+            let Some(column) = self.taken.get_mut(place) else {
+                break;
+            };
+            let rows = usize::from(position.height + low)..usize::from(position.height + high);
+            for cell in column.iter_mut().take(rows.end).skip(rows.start) {
                 assert!(!*cell, "in two pieces: {outline:?} at {position:?}");
                 *cell = true;
             }
         }
+        self.keeps_distance(outline, position);
         self.standing.clear();
+    }
+
+    /// "Two points inside different pieces must then differ by at least g in x or in
+    /// y"; without a gap, no point is inside two.
+    fn keeps_distance(&mut self, outline: &[u16], position: Position) {
+        let shape = Shape::new(outline, position, self.r);
+        for other in &self.shapes {
+            let close = too_close(&shape, other, self.g);
+            assert!(!close, "too close: {outline:?} at {position:?}");
+            self.pairs[0] += 1;
+            self.pairs[1] += u32::from(too_close(&shape, other, self.g + 1));
+        }
+        self.shapes.push(shape);
     }
 
     /// At an ask's answer with the strip unchanged only a smaller work buffer can
@@ -276,36 +303,57 @@ fn next(both: &mut Both, list: &mut MixedList, told: &mut Told, strip: &mut [u16
     }
 }
 
-#[test]
-fn lists_of_ask_commit_and_place() {
-    let mut both = Both::new(600);
-    let mut random = Random::new(601);
-    let mut at_answers = [0; 2];
+/// 20,000 lists, each on a strip with a gap of this kind, with large outlines or
+/// without; what came is checked.
+fn lists(seed: u64, large: bool, gap: fn(&mut Random, u16) -> u16) {
+    let mut both = Both::new(seed);
+    let mut random = Random::new(seed + 1);
+    let (mut at_answers, mut pairs) = ([0; 2], [0; 2]);
     for _ in 0..20_000 {
+        let r = random.word(1, 5);
         let figures = StripFigures {
             w: random.word(1, 30),
-            r: random.word(1, 5),
+            r,
             n: random.word(1, 24),
+            g: gap(&mut random, r),
             q: random.between(1, 40) as usize,
         };
         let mut strip = opened(figures);
         let mut list = MixedList::new(&mut random, 9);
+        if !large {
+            list = list.without_large();
+        }
         let mut told = Told::new(figures);
         for _ in 0..random.between(1, 40).min(random.between(1, 40)) {
             let call = list.next_call(&mut random, &strip);
             next(&mut both, &mut list, &mut told, &mut strip, call);
         }
         told.check_strip(&strip);
-        at_answers[0] += told.at_answers[0];
-        at_answers[1] += told.at_answers[1];
+        for (sums, of_list) in [(&mut at_answers, told.at_answers), (&mut pairs, told.pairs)] {
+            sums[0] += of_list[0];
+            sums[1] += of_list[1];
+        }
     }
     println!("commits at standing answers, with fewer words {at_answers:?}");
+    println!("pairs of pieces, too close for a unit more {pairs:?}");
+    assert!(pairs[0] > 10_000 && pairs[1] > 2_000);
     let (asks, commits) = ([7, 8, 9, 10, 11, 12, 13, 14], [7, 8, 9, 10, 11, 12, 14, 18]);
     both.came(150, &asks, &commits);
     assert!(both.asks[0] > 20_000 && both.commits[0] > 20_000);
     assert!(at_answers[0] > 5_000 && at_answers[1] > 500);
     let ill_formed = [both.places[5], both.asks[5], both.commits[5]];
     assert_eq!(ill_formed, [0; 3], "no call of a list answers 5");
+}
+
+#[test]
+fn lists_of_ask_commit_and_place() {
+    lists(600, true, |_, _| 0);
+}
+
+/// 1, 2, R − 1, R, R + 1 and a few more, now and then 400 or any.
+#[test]
+fn lists_with_gaps() {
+    lists(624, false, |random, r| small_gap(random, r).max(1));
 }
 
 /// Ask, asked twice, and commit leave the strip of place, word by word: on strips in
@@ -321,9 +369,10 @@ fn ask_and_commit_are_place() {
         let columns = random_runs(&mut random, w, n, most);
         let before: usize = columns.iter().map(Vec::len).sum();
         let (mask, size) = (sound_mask(&mut random), random.word(2, 7));
-        let call = asking(&sound_outline(&mut random, mask, size), mask, 900);
+        let call = asking(&sound_outline(&mut random, mask, size), mask, 3_000);
+        let g = random.word(0, 8).saturating_sub(3);
         let mut on = |q: usize, random: &mut Random| {
-            let strip = strip_with(random, StripFigures { w, r, n, q }, &columns);
+            let strip = strip_with(random, StripFigures { w, r, n, g, q }, &columns);
             let answer = both.ask(&strip, &call);
             assert_eq!(both.ask(&strip, &call), answer, "asked twice");
             let (mut placed, mut committed) = (strip.clone(), strip);
@@ -363,6 +412,7 @@ fn commits_at_every_position() {
             w: random.word(1, 12),
             r: random.word(1, 3),
             n: random.word(1, 7),
+            g: random.word(0, 5).saturating_sub(2),
             q: random.between(1, 24) as usize,
         };
         let most = random.index(figures.q + 1);
@@ -398,6 +448,7 @@ fn commits_with_records_just_enough() {
             w,
             r,
             n,
+            g: random.word(0, 4).saturating_sub(1),
             q: before + 100,
         };
         let mut strip = strip_with(&mut random, roomy, &columns);
@@ -434,14 +485,16 @@ fn work_around_what_is_needed() {
     let mut fewer = 0;
     for _ in 0..600 {
         let (r, size) = (random.word(1, 4), random.word(2, 12));
+        let g = random.word(0, 8).saturating_sub(3);
         let outline = sound_outline(&mut random, 15, size);
         let strip = opened(StripFigures {
             w: 30,
             r,
             n: 30,
+            g,
             q: 200,
         });
-        let needed = [0, 1, 2, 3].map(|turn| 3 * runs(&outline, turn, r).len());
+        let needed = [0, 1, 2, 3].map(|turn| 3 * runs(&outline, turn, r, g).len());
         let most = needed.into_iter().max().unwrap_or(0);
         for (turn, needed) in (0..).zip(needed) {
             for work in needed.saturating_sub(3)..=needed + 3 {
@@ -490,6 +543,31 @@ fn damaged_strips() {
     both.came(3_000, &[5], &[5]);
 }
 
+/// A strip with any gap in its fifth word, over 400 and not: 5 or what place answers
+/// with that gap, which need not be the one with which its runs were made.
+#[test]
+fn gaps_changed_on_the_strip() {
+    let mut both = Both::new(626);
+    let mut random = Random::new(627);
+    for round in 0..4_000 {
+        let mut strip = sound_strip(&mut random);
+        strip[4] = match round % 4 {
+            0 => random.pick(&[401, 402, 512, 65_535]),
+            1 => random.word(401, 65_535),
+            2 => random.word(0, 400),
+            _ => random.pick(&[0, 1, 2, 3, 399, 400]),
+        };
+        let call = asking(&sound_outline(&mut random, 15, 5), 15, 9_000);
+        let answer = both.ask(&strip, &call);
+        assert_eq!(answer == Err(no(5, 0)), strip[4] > 400);
+        let position = answer.unwrap_or(at(0, 0, 0));
+        let commit = committing(&call.outline, position, 9_000);
+        let _ = both.commit(&mut strip.clone(), &commit);
+        assert_eq!(both.place(&mut strip, &call), answer);
+    }
+    both.came(300, &[0, 5, 13], &[0, 5, 18]);
+}
+
 /// Anything at all: outlines of every kind and size, any mask, turn, column, height and
 /// work buffer, on strips in any order, some with words changed.
 #[test]
@@ -526,6 +604,7 @@ fn empty_buffers() {
         w: 10,
         r: 2,
         n: 10,
+        g: 0,
         q: 2,
     });
     let square = [0, 0, 4, 0, 4, 4, 0, 4];
@@ -545,11 +624,8 @@ fn empty_buffers() {
 
 // Large
 
-/// Public outlines looked at and then laid, beside a strip on which they are placed.
-#[test]
-fn public_outlines() {
-    let mut both = Both::new(616);
-    let mut random = Random::new(617);
+/// Strips with public outlines for them, without a gap and with one.
+fn public_lists(random: &mut Random) -> Vec<(StripFigures, Vec<Vec<u16>>)> {
     let mut counties = data::outlines(data::NC_COUNTIES);
     random.shuffle(&mut counties);
     counties.truncate(16);
@@ -557,16 +633,32 @@ fn public_outlines() {
         w: 8_000,
         r: 100,
         n: 80,
+        g: 0,
         q: 1_000,
     };
     let fine = StripFigures {
         w: 15,
         r: 1,
         n: 40,
+        g: 0,
         q: 300,
     };
     let shapes = vec![data::outlines(data::SHAPES_2); 4].concat();
-    for (figures, outlines) in [(coarse, counties), (fine, shapes)] {
+    vec![
+        (StripFigures { g: 40, ..coarse }, counties[..8].to_vec()),
+        (coarse, counties),
+        (fine, shapes.clone()),
+        (StripFigures { g: 1, ..fine }, shapes),
+    ]
+}
+
+/// Public outlines looked at and then laid, beside a strip on which they are placed.
+#[test]
+fn public_outlines() {
+    let mut both = Both::new(616);
+    let mut random = Random::new(617);
+    for (figures, outlines) in public_lists(&mut random) {
+        let mut told = Told::new(figures);
         let (mut committed, mut placed) = (opened(figures), opened(figures));
         for outline in outlines {
             let mask = random.pick(&[1, 2, 6, 15]);
@@ -574,7 +666,8 @@ fn public_outlines() {
             let answer = both.ask(&committed, &call);
             assert_eq!(both.place(&mut placed, &call), answer);
             if let Ok(position) = answer {
-                let needed = 3 * runs(&outline, position.turn, figures.r).len();
+                told.put(&outline, position);
+                let needed = 3 * runs(&outline, position.turn, figures.r, figures.g).len();
                 let short = committing(&outline, position, needed - 1);
                 assert_eq!(both.commit(&mut committed, &short), Err(no(12, 1)));
                 let commit = committing(&outline, position, needed);
@@ -600,7 +693,8 @@ fn large_strips() {
     ] {
         for most in [0, q / 2, q] {
             let columns = random_runs(&mut random, w, n, most);
-            let figures = StripFigures { w, r: 3, n, q };
+            let (r, g) = (3, if most == q / 2 { 4 } else { 0 });
+            let figures = StripFigures { w, r, n, g, q };
             let mut strip = strip_with(&mut random, figures, &columns);
             for size in [2, 60, 100] {
                 let outline = sound_outline(&mut random, 15, size);
@@ -624,6 +718,7 @@ fn the_last_position() {
         w: 16_000,
         r: 400,
         n: 4_096,
+        g: 0,
         q: 16_000,
     };
     let unit = [0, 0, 1, 0, 1, 1, 0, 1];
@@ -658,6 +753,7 @@ fn the_largest_pieces() {
             w,
             r: 400,
             n,
+            g: 0,
             q: 40,
         };
         let mut strip = opened(figures);
@@ -679,6 +775,7 @@ fn the_largest_pieces() {
         w: 16_000,
         r: 1,
         n: 4_096,
+        g: 0,
         q: 16_000,
     });
     for (work, asked, number) in [
@@ -700,6 +797,7 @@ fn on_a_small_stack() {
             w: 10,
             r: 2,
             n: 10,
+            g: 0,
             q: 4,
         });
         let (square, mut work) = ([0, 0, 4, 0, 4, 4, 0, 4], [1; 6]);

@@ -8,9 +8,10 @@ use reference::bytes::{ask_bytes, commit_bytes, lay_bytes, open_bytes, place_byt
 use reference::figures::{no, Piece, NUMBERS};
 use reference::generate::outlines::zigzag_of;
 use reference::generate::{
-    any_figures, any_mask, any_outline, any_turn, change_words, damaged_sheet, damaged_strip, job,
-    small_figures, sound_outline, sound_sheet, sound_strip, strip_with, Call, CommitCall, Damage,
-    Job, MixedList, PlaceCall, Random, SheetDamage, SheetPlan, StripFigures,
+    any_figures, any_gap, any_mask, any_outline, any_turn, change_words, damaged_sheet,
+    damaged_strip, job, small_figures, small_gap, sound_outline, sound_sheet, sound_strip,
+    strip_with, Call, CommitCall, Damage, Job, MixedList, PlaceCall, Random, SheetDamage,
+    SheetPlan, StripFigures,
 };
 use reference::{runs, Figures, Position, Refusal, Totals};
 use std::fmt::Debug;
@@ -89,9 +90,10 @@ struct Both {
     commits: Numbers,
 }
 
-/// The bytes of the buffers lent to lay.
+/// The gap, and the bytes of the buffers lent to lay.
 #[derive(Clone, Copy, Debug)]
 struct Lengths {
+    g: u16,
     strip: usize,
     output: usize,
     work: usize,
@@ -143,8 +145,8 @@ impl Both {
         self.numbers[number(answer)] += 1;
     }
 
-    /// Opens a strip of so many bytes.
-    fn open(&mut self, figures: Figures, length: usize) -> Result<(), Refusal> {
+    /// Opens a strip of so many bytes with a gap.
+    fn open(&mut self, figures: Figures, g: u16, length: usize) -> Result<(), Refusal> {
         let Figures {
             width: w,
             resolution: r,
@@ -152,14 +154,15 @@ impl Both {
         } = figures;
         let before = other_bytes(length);
         let mut after = before.clone();
-        let answer = open_bytes(w, r, n, &mut after);
+        let answer = open_bytes(w, r, n, g, &mut after);
         let lent = self.strip.lend(&mut self.random, &before);
-        let case = || format!("{figures:?} of {length} bytes");
-        assert_eq!(engine::open_bytes(w, r, n, lent), answer, "{}", case());
+        let case = || format!("{figures:?} gap {g} of {length} bytes");
+        assert_eq!(engine::open_bytes(w, r, n, g, lent), answer, "{}", case());
         assert!(*lent == *after, "strip: {}", case());
         assert!(self.strip.kept(), "beside the strip: {}", case());
         let mut on_words = words(&before);
-        assert_eq!(engine::open(w, r, n, &mut on_words), answer, "{}", case());
+        let answer_on_words = engine::open(w, r, n, g, &mut on_words);
+        assert_eq!(answer_on_words, answer, "{}", case());
         assert!(on_words == words(&after), "words: {}", case());
         assert_eq!(after[length / 2 * 2..], before[length / 2 * 2..]);
         self.count(&answer);
@@ -290,12 +293,19 @@ impl Both {
         let work = other_bytes(lengths.work);
         let [mut strip_after, mut output_after, mut work_after] =
             [&strip, &output, &work].map(Vec::clone);
-        let answer = lay_bytes(sheet, &mut strip_after, &mut output_after, &mut work_after);
+        let g = lengths.g;
+        let answer = lay_bytes(
+            sheet,
+            g,
+            &mut strip_after,
+            &mut output_after,
+            &mut work_after,
+        );
         let lent_sheet = self.sheet.lend(&mut self.random, sheet);
         let lent_strip = self.strip.lend(&mut self.random, &strip);
         let lent_output = self.output.lend(&mut self.random, &output);
         let lent_work = self.work.lend(&mut self.random, &work);
-        let ours = engine::lay_bytes(lent_sheet, lent_strip, lent_output, lent_work);
+        let ours = engine::lay_bytes(lent_sheet, g, lent_strip, lent_output, lent_work);
         assert_eq!(ours, answer, "{}", case());
         assert!(*lent_sheet == *sheet, "sheet: {}", case());
         assert!(*lent_strip == *strip_after, "strip: {}", case());
@@ -305,7 +315,7 @@ impl Both {
         assert!(kept, "beside a buffer: {}", case());
 
         let [mut strip, mut output, mut work] = [&strip, &output, &work].map(|bytes| words(bytes));
-        let on_words = engine::lay(sheet, &mut strip, &mut output, &mut work);
+        let on_words = engine::lay(sheet, g, &mut strip, &mut output, &mut work);
         assert_eq!(on_words, answer, "on words: {}", case());
         assert!(
             strip == words(&strip_after),
@@ -348,7 +358,7 @@ fn both_ways(least: u32, buffers: &[&Buffer]) {
 
 /// The bytes of a strip.
 fn strip_bytes(n: u16, q: usize) -> usize {
-    2 * (4 + usize::from(n) + 4 * q)
+    2 * (5 + usize::from(n) + 4 * q)
 }
 
 /// So many bytes; sometimes one more, which is no part of the words, or a word more
@@ -408,9 +418,10 @@ fn open_with_any_figures() {
             0 => random.index(600),
             _ => nearly(&mut random, right),
         };
-        both.open(figures, length).ok();
+        let g = any_gap(&mut random, figures.resolution);
+        both.open(figures, g, length).ok();
     }
-    both.came(1_000, &[0, 3, 16, 17, 4]);
+    both.came(1_000, &[0, 3, 16, 17, 21, 4]);
     both_ways(4_000, &[&both.strip]);
 }
 
@@ -420,28 +431,30 @@ fn open_with_every_length() {
     let mut granted = 0;
     for n in 1..=20 {
         for length in 0..=300 {
-            let answer = both.open(figures(300, 10, n), length);
+            let answer = both.open(figures(300, 10, n), 300, length);
             granted += u32::from(answer.is_ok());
         }
     }
-    // From 8 + N words on each fourth number of words, with an odd byte or without, up to 300 bytes.
+    // From 9 + N words on each fourth number of words, with an odd byte or without, up to 300 bytes.
     let fits = |n: usize| {
-        (0..=300).filter(move |length| length / 2 >= 8 + n && (length / 2 - n).is_multiple_of(4))
+        let records = move |length: &usize| (length / 2).checked_sub(5 + n);
+        let whole = move |words: usize| words >= 4 && words.is_multiple_of(4);
+        (0..=300).filter(move |length| records(length).is_some_and(whole))
     };
     let expected = (1..=20).map(|n| fits(n).count()).sum::<usize>();
     assert_eq!(granted as usize, expected);
 }
 
-/// The longest strip has 68,100 words.
+/// The longest strip has 68,101 words.
 #[test]
 fn strips_at_and_past_the_longest() {
     let mut both = Both::new(504);
     for n in [1, 2, 3, 4, 4_093, 4_094, 4_095, 4_096] {
         let longest = strip_bytes(n, 16_000);
         let lengths =
-            (longest - 3..=longest + 12).chain([136_199, 136_203, 136_210, 150_001, 400_000]);
+            (longest - 3..=longest + 12).chain([136_199, 136_205, 136_212, 150_001, 400_000]);
         for length in lengths {
-            let answer = both.open(figures(16_000, 400, n), length);
+            let answer = both.open(figures(16_000, 400, n), 400, length);
             assert_eq!(answer.is_ok(), length / 2 == longest / 2, "{n} {length}");
         }
     }
@@ -494,7 +507,8 @@ fn lists_of_calls() {
             } = small_figures(&mut random);
             let q = random.between(1, 30) as usize;
             let mut strip = perhaps_odd(&mut random, other_bytes(strip_bytes(n, q)));
-            assert_eq!(engine::open_bytes(w, r, n, &mut strip), Ok(()));
+            let g = small_gap(&mut random, r);
+            assert_eq!(engine::open_bytes(w, r, n, g, &mut strip), Ok(()));
             let count = random.between(1, 20) as usize;
             calls_on(&mut both, &mut random, &mut strip, count);
         }
@@ -560,7 +574,8 @@ fn placing_on_the_longest_strips() {
             (4_093, 16_001, false),
             (1, 17_024, false),
         ] {
-            let figures = StripFigures { w: 40, r: 2, n, q };
+            let (w, r, g) = (40, 2, 0);
+            let figures = StripFigures { w, r, n, g, q };
             let runs = vec![vec![]; usize::from(n)];
             let strip = bytes(&strip_with(&mut random, figures, &runs));
             for more in [0, 1, 2, 3, 8, 9, 60_000] {
@@ -588,7 +603,7 @@ fn outlines_at_and_past_the_longest() {
             outline.truncate(length);
             let mut strip = other_bytes(strip_bytes(10, 9));
             assert_eq!(
-                engine::open_bytes(40, 2, figures.columns, &mut strip),
+                engine::open_bytes(40, 2, figures.columns, 0, &mut strip),
                 Ok(())
             );
             let answer = both.in_each_way(&strip, &outline, 3, 600);
@@ -610,20 +625,22 @@ fn bar(columns: u16) -> Vec<u16> {
     vec![0, 0, columns, 0, columns, 1, 0, 1]
 }
 
-/// Work buffers at and past 9,000 words and 1,536,000, which is more than any outline
-/// needs: for pieces that need less, as much, a word more and a byte more.
+/// Work buffers at and past 9,000 words, 1,536,000 and 1,574,400, which is 32 runs for
+/// each of 16,000 columns and of 16,400: for pieces that need less, as much, a word more
+/// and a byte more.
 #[test]
 fn work_buffers_of_every_size() {
     on_large_stack(|| {
         let mut both = Both::new(518);
         let lengths = [
             0, 1, 17_998, 17_999, 18_000, 18_001, 18_002, 18_003, 18_005, 18_006, 18_007, 40_000,
-            40_001, 3_071_998, 3_071_999, 3_072_000, 3_072_001, 3_072_002, 4_000_000, 4_000_001,
+            40_001, 3_071_998, 3_071_999, 3_072_000, 3_072_001, 3_072_002, 3_148_799, 3_148_800,
+            3_148_801, 4_000_000, 4_000_001,
         ];
         for length in lengths {
             for outline in [SQUARE.to_vec(), bar(2_999), bar(3_000), bar(3_001)] {
                 let mut strip = vec![7; strip_bytes(4_096, 4_000)];
-                assert_eq!(engine::open_bytes(5, 1, 4_096, &mut strip), Ok(()));
+                assert_eq!(engine::open_bytes(5, 1, 4_096, 0, &mut strip), Ok(()));
                 let answer = both.in_each_way(&strip, &bytes(&outline), 0, length);
                 let runs = usize::from(outline[2]);
                 assert_eq!(
@@ -654,7 +671,7 @@ fn pieces_with_most_runs() {
         let mut both = Both::new(519);
         let placed = band(32, 100, 400);
         let wide = band(32, 500, 16_000);
-        let some = 6 * runs(&placed, 0, 1).len();
+        let some = 6 * runs(&placed, 0, 1, 0).len();
         assert!(some > 18_000);
         for (outline, length, number) in [
             (&placed, some - 2, 12),
@@ -666,7 +683,7 @@ fn pieces_with_most_runs() {
             (&wide, 6 * 495_010, 13),
         ] {
             let mut strip = vec![7; strip_bytes(4_096, 16_000)];
-            assert_eq!(engine::open_bytes(16_000, 1, 4_096, &mut strip), Ok(()));
+            assert_eq!(engine::open_bytes(16_000, 1, 4_096, 0, &mut strip), Ok(()));
             let answer = both.in_each_way(&strip, &bytes(outline), 0, length);
             let came = answer.map_or_else(|no| no.number, |_| 0);
             assert_eq!(came, number, "{length} bytes");
@@ -718,6 +735,7 @@ fn jobs() {
             let right = strip_bytes(job.figures.columns, q);
             let pieces = job.pieces.len();
             let lengths = Lengths {
+                g: small_gap(&mut random, job.figures.resolution),
                 strip: right + random.index(2),
                 output: 8 * pieces + random.pick(&[0, 1, 2, 3, 9, 1_600]),
                 work: random.pick(&[0, 1, 12, 61, 120, 601, 18_000, 18_001]),
@@ -734,6 +752,14 @@ fn jobs() {
         // A sheet has an even length.
         assert!(both.sheet.addresses.iter().all(|&times| times > 2_000));
     });
+}
+
+/// A gap that leaves room most often, at times any.
+fn job_gap(random: &mut Random) -> u16 {
+    match random.index(12) {
+        0 => any_gap(random, 2),
+        _ => random.word(0, 3),
+    }
 }
 
 /// Sheets good and bad, cut off and with a byte more, on buffers of any length.
@@ -764,6 +790,7 @@ fn jobs_of_any_bytes() {
                 let right = strip_bytes_of(&sheet, q);
                 let output = random.pick(&[8, 40, 80, 1_600]);
                 let lengths = Lengths {
+                    g: job_gap(&mut random),
                     strip: nearly(&mut random, right),
                     output: nearly(&mut random, output),
                     work: random.index(300),
@@ -771,7 +798,7 @@ fn jobs_of_any_bytes() {
                 let _ = both.lay(&sheet, lengths);
             }
         }
-        both.came(10, &[0, 1, 2, 3, 16, 17, 4, 6, 7, 8, 9, 10, 11, 15]);
+        both.came(10, &[0, 1, 2, 3, 16, 17, 21, 4, 6, 7, 8, 9, 10, 11, 15]);
         both_ways(200, &[&both.sheet, &both.strip, &both.output, &both.work]);
     });
 }
@@ -800,6 +827,7 @@ fn outputs_of_every_size() {
                 .chain([5_000, 10_001]);
             for output in lengths {
                 let lengths = Lengths {
+                    g: 0,
                     strip: strip_bytes(10, 20),
                     output,
                     work: 100,
@@ -814,6 +842,7 @@ fn outputs_of_every_size() {
             }
         }
         let lengths = Lengths {
+            g: 0,
             strip: strip_bytes(10, 20),
             output: 10_001,
             work: 100,
@@ -844,12 +873,13 @@ fn jobs_on_the_longest_strips() {
         let sheet = on_the_largest(&[SQUARE.to_vec()]);
         for strip in (136_190..=136_210).chain([136_219, 200_000, 400_001]) {
             let lengths = Lengths {
+                g: 0,
                 strip,
                 output: 8,
                 work: 60,
             };
             let (answer, _) = both.lay(&sheet, lengths);
-            let words = strip / 2 - 4 - 4_096;
+            let words = strip / 2 - 5 - 4_096;
             let records = words.is_multiple_of(4) && words <= 4 * 16_000;
             assert_eq!(answer.is_ok(), records, "{strip} bytes");
         }
@@ -863,6 +893,7 @@ fn jobs_with_work_buffers_of_every_size() {
         let mut both = Both::new(527);
         let mut fates_with = |outlines: &[Vec<u16>], work: usize| {
             let lengths = Lengths {
+                g: 0,
                 strip: strip_bytes(4_096, 16_000),
                 output: 8 * outlines.len() + 1,
                 work,
@@ -904,25 +935,31 @@ fn empty_buffers() {
     on_large_stack(|| {
         let mut both = Both::new(531);
         let none = Lengths {
+            g: 0,
             strip: 0,
             output: 0,
             work: 0,
         };
         for length in [0, 1] {
             let held = vec![9; length];
-            assert_eq!(both.open(figures(10, 2, 10), length), Err(no(4, 0)));
-            assert_eq!(both.open(figures(0, 2, 10), length), Err(no(3, 0)));
+            assert_eq!(both.open(figures(10, 2, 10), 400, length), Err(no(4, 0)));
+            assert_eq!(both.open(figures(10, 2, 10), 401, length), Err(no(21, 0)));
+            assert_eq!(both.open(figures(10, 2, 0), 401, length), Err(no(17, 0)));
+            assert_eq!(both.open(figures(0, 2, 10), 401, length), Err(no(3, 0)));
             let answer = both.in_each_way(&held, &held, 0, length);
             assert_eq!(answer, Err(no(5, 0)));
             let mut strip = vec![3; strip_bytes(10, 2) + length];
-            assert_eq!(engine::open_bytes(10, 2, 10, &mut strip), Ok(()));
+            assert_eq!(engine::open_bytes(10, 2, 10, 0, &mut strip), Ok(()));
             let answer = both.in_each_way(&strip, &held, 0, length);
             assert_eq!(answer, Err(no(7, 1)));
             let answer = both.in_each_way(&strip, &bytes(&SQUARE), 0, length);
             assert_eq!(answer, Err(no(12, 1)));
             assert_eq!(both.lay(&held, none).0, Err(no(1, 0)));
             assert_eq!(both.lay(&squares(0), none).0, Err(no(4, 0)));
+            let over = Lengths { g: 401, ..none };
+            assert_eq!(both.lay(&squares(0), over).0, Err(no(21, 0)));
             let opened = Lengths {
+                g: 400,
                 strip: strip.len(),
                 output: length,
                 work: length,
@@ -964,6 +1001,7 @@ fn any_bytes() {
             both.commit(&mut strip, &outline, position, work).ok();
             let sheet = some_bytes(&mut random, 200);
             let lengths = Lengths {
+                g: random.word(0, 3),
                 strip: random.index(300),
                 output: random.index(50),
                 work: random.index(50),
@@ -980,7 +1018,7 @@ fn on_a_small_stack() {
     on_stack(512 << 10, || {
         let mut strip = vec![0; strip_bytes(10, 6)];
         let mut work = vec![0; 18_001];
-        assert_eq!(engine::open_bytes(10, 2, 10, &mut strip), Ok(()));
+        assert_eq!(engine::open_bytes(10, 2, 10, 0, &mut strip), Ok(()));
         let mut committed = strip.clone();
         for (column, height) in [(0, 0), (0, 4), (2, 0)] {
             let square = bytes(&[0, 0, 4, 0, 4, 4, 0, 4]);
@@ -999,7 +1037,7 @@ fn on_a_small_stack() {
         }
         let mut output = vec![0; 24];
         assert_eq!(
-            engine::lay_bytes(&squares(3), &mut strip, &mut output, &mut work),
+            engine::lay_bytes(&squares(3), 0, &mut strip, &mut output, &mut work),
             Ok(Totals { placed: 3, used: 4 })
         );
     });

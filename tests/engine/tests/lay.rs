@@ -6,17 +6,19 @@
 use engine::data;
 use engine::guard::Room;
 use engine::plain_place::Board;
-use reference::figures::{no, Piece};
+use reference::distance::{too_close, Shape};
+use reference::figures::{no, Piece, NUMBERS};
 use reference::generate::outlines::{is_sound, zigzag_of};
 use reference::generate::{
-    any_figures, damaged_sheet, small_figures, sound_mask, sound_outline, sound_pieces,
-    sound_sheet, Job, Random, SheetDamage, SheetPlan,
+    any_figures, any_gap, damaged_sheet, small_figures, small_gap, sound_gap, sound_mask,
+    sound_outline, sound_pieces, sound_sheet, Job, Random, SheetDamage, SheetPlan,
 };
-use reference::{runs, strip_runs, Figures, Refusal, Totals};
+use reference::{runs, strip_runs, Figures, Position, Refusal, Totals};
 
-/// The words of the buffers lent.
+/// The gap, and the words of the buffers lent.
 #[derive(Clone, Copy, Debug)]
 struct Words {
+    g: u16,
     strip: usize,
     output: usize,
     work: usize,
@@ -30,9 +32,9 @@ struct Both {
     work: Room,
     jobs: u32,
     /// How often each number was the answer; 0 is granted.
-    numbers: [u32; 18],
+    numbers: [u32; NUMBERS],
     /// How often each number was a piece's fate; 0 is placed.
-    fates: [u32; 18],
+    fates: [u32; NUMBERS],
     turns: [u32; 4],
 }
 
@@ -54,8 +56,8 @@ impl Both {
             output: Room::new(1_000),
             work: Room::new(1_500_000),
             jobs: 0,
-            numbers: [0; 18],
-            fates: [0; 18],
+            numbers: [0; NUMBERS],
+            fates: [0; NUMBERS],
             turns: [0; 4],
         }
     }
@@ -69,8 +71,8 @@ impl Both {
         let lent_strip = self.strip.lend(&strip);
         let lent_output = self.output.lend(&output);
         let lent_work = self.work.lend(&work);
-        let answer = reference::lay(sheet, &mut strip, &mut output, &mut work);
-        let ours = engine::lay(lent_sheet, lent_strip, lent_output, lent_work);
+        let answer = reference::lay(sheet, words.g, &mut strip, &mut output, &mut work);
+        let ours = engine::lay(lent_sheet, words.g, lent_strip, lent_output, lent_work);
         assert_eq!(ours, answer, "{}", case());
         assert_eq!(*lent_output, *output, "output: {}", case());
         assert!(*lent_strip == *strip, "strip: {}", case());
@@ -100,6 +102,7 @@ impl Both {
         }
         // What stood there before.
         assert_eq!(*rest, other_words(words.output)[entries.len()..]);
+        check_distances(job, entries, words.g);
         totals
     }
 
@@ -122,24 +125,50 @@ impl Both {
     }
 }
 
+/// "Two points inside different pieces must then differ by at least g in x or in y",
+/// judged without cells; of large jobs each piece with the ten before it.
+fn check_distances(job: &Job, entries: &[u16], g: u16) {
+    let mut shapes: Vec<Shape> = Vec::new();
+    for (piece, entry) in job.pieces.iter().zip(entries.chunks_exact(4)) {
+        if entry[0] != 0 {
+            continue;
+        }
+        let position = Position {
+            turn: entry[1],
+            column: entry[2],
+            height: entry[3],
+        };
+        let shape = Shape::new(&piece.outline, position, job.figures.resolution);
+        for other in shapes.iter().rev().take(10) {
+            assert!(!too_close(&shape, other, g), "too close: {position:?}");
+        }
+        shapes.push(shape);
+    }
+}
+
 fn strip_words(n: u16, q: usize) -> usize {
-    4 + usize::from(n) + 4 * q
+    5 + usize::from(n) + 4 * q
 }
 
 /// The work words that question 12 asks for.
-fn work_for(piece: &Piece, r: u16) -> usize {
+fn work_for(piece: &Piece, r: u16, g: u16) -> usize {
     let allowed = (0..4).filter(|turn| piece.mask >> turn & 1 == 1);
     let most = allowed
-        .map(|turn| runs(&piece.outline, turn, r).len())
+        .map(|turn| runs(&piece.outline, turn, r, g).len())
         .max();
     3 * most.expect("a turn")
 }
 
-/// Words with which no piece gets 12, and the job not 15.
+/// Words with which no piece gets 12, and the job not 15, without a gap.
 fn enough(job: &Job, q: usize) -> Words {
+    enough_with_gap(job, 0, q)
+}
+
+fn enough_with_gap(job: &Job, g: u16, q: usize) -> Words {
     let r = job.figures.resolution;
-    let work = job.pieces.iter().map(|piece| work_for(piece, r)).max();
+    let work = job.pieces.iter().map(|piece| work_for(piece, r, g)).max();
     Words {
+        g,
         strip: strip_words(job.figures.columns, q),
         output: 4 * job.pieces.len(),
         work: work.unwrap_or(0),
@@ -156,7 +185,7 @@ fn sheet_of(random: &mut Random, job: &Job) -> Vec<u8> {
 }
 
 /// The most runs that the strip has on the way, by the engine's own place calls.
-fn most_runs(job: &Job, work: usize) -> usize {
+fn most_runs(job: &Job, Words { g, work, .. }: Words) -> usize {
     let Figures {
         width,
         resolution,
@@ -164,7 +193,8 @@ fn most_runs(job: &Job, work: usize) -> usize {
     } = job.figures;
     let mut strip = vec![0; strip_words(columns, 2_000)];
     let mut work = vec![0; work];
-    assert_eq!(engine::open(width, resolution, columns, &mut strip), Ok(()));
+    let opened = engine::open(width, resolution, columns, g, &mut strip);
+    assert_eq!(opened, Ok(()));
     let mut most = 0;
     for piece in &job.pieces {
         if engine::place(&mut strip, &piece.outline, piece.mask, &mut work).is_ok() {
@@ -210,12 +240,16 @@ fn small_jobs() {
         let job = small_job(&mut random);
         let sheet = sheet_of(&mut random, &job);
         let q = random.between(1, 40) as usize;
-        let mut words = enough(&job, q);
+        let g = match round % 2 {
+            0 => small_gap(&mut random, job.figures.resolution),
+            _ => 0,
+        };
+        let mut words = enough_with_gap(&job, g, q);
         words.work = any_work(&mut random, words.work);
         words.output += random.pick(&[0, 0, 1, 3, 4, 9]);
         both.granted(&job, &sheet, words);
         let most = if round % 3 == 0 {
-            most_runs(&job, words.work)
+            most_runs(&job, words)
         } else {
             0
         };
@@ -275,13 +309,36 @@ fn copies() {
         copies += job.pieces.windows(2).filter(|two| two[0] == two[1]).count();
         let sheet = sheet_of(&mut random, &job);
         let q = random.between(1, 120) as usize;
-        let mut words = enough(&job, q);
+        let g = small_gap(&mut random, job.figures.resolution);
+        let mut words = enough_with_gap(&job, g, q);
         words.work = any_work(&mut random, words.work);
         both.granted(&job, &sheet, words);
     }
     println!("copies of the piece before: {copies}");
     assert!(copies > 30_000, "{copies}");
     both.came(6_000, 1_500, &[0], &[0, 12, 13, 14]);
+}
+
+/// 21 comes before 4 and 15.
+fn gaps_over_400(both: &mut Both, random: &mut Random, sheet: &[u8], right: Words) {
+    let over = random.word(401, 65_535);
+    for g in [401, over, 65_535] {
+        let words = Words {
+            g,
+            strip: random.pick(&[right.strip, right.strip + 1, 0]),
+            output: random.pick(&[0, right.output]),
+            ..right
+        };
+        assert_eq!(both.lay(sheet, words), Err(no(21, 0)));
+    }
+}
+
+/// A gap that leaves room most often, at times any.
+fn job_gap(random: &mut Random) -> u16 {
+    match random.index(12) {
+        0 => any_gap(random, 2),
+        _ => random.word(0, 3),
+    }
 }
 
 /// Jobs that pass with an output short by one and shorter, and strips of other
@@ -294,7 +351,9 @@ fn other_lengths() {
         let job = small_job(&mut random);
         let sheet = sheet_of(&mut random, &job);
         let q = random.between(1, 20) as usize;
-        let right = enough(&job, q);
+        let g = small_gap(&mut random, job.figures.resolution);
+        let right = enough_with_gap(&job, g, q);
+        gaps_over_400(&mut both, &mut random, &sheet, right);
         if right.output > 0 {
             for output in [0, right.output - 1, random.index(right.output)] {
                 let answer = both.lay(&sheet, Words { output, ..right });
@@ -325,7 +384,7 @@ fn other_lengths() {
         let answer = both.lay(&job.sheet(), enough(&job, q));
         assert_eq!(answer.err().map_or(0, |no| no.number), number);
     }
-    both.came(9_000, 3_000, &[4, 15], &[]);
+    both.came(9_000, 3_000, &[4, 15, 21], &[]);
 }
 
 /// The strip words that a sheet of any bytes asks for, with so many records.
@@ -354,6 +413,7 @@ fn damaged_sheets() {
             let damaged = damaged_sheet(&mut random, damage);
             let q = random.between(1, 9) as usize;
             let right = Words {
+                g: random.pick(&[0, 1, 400]),
                 strip: strip_words_of(&damaged.bytes, q),
                 output: random.pick(&[0, 3, 16, 800]),
                 work: random.index(40),
@@ -366,11 +426,26 @@ fn damaged_sheets() {
             };
             let answer = both.lay(&damaged.bytes, wrong);
             let before_4 = [1, 2, 3, 16, 17].contains(&damaged.refusal.number);
-            let expected = if before_4 { damaged.refusal } else { no(4, 0) };
-            assert_eq!(answer, Err(expected), "{damage:?}");
+            let expected = |after| {
+                if before_4 {
+                    damaged.refusal
+                } else {
+                    no(after, 0)
+                }
+            };
+            assert_eq!(answer, Err(expected(4)), "{damage:?}");
+            // 21 stands between 17 and 4.
+            let words = random.pick(&[right, wrong]);
+            let answer = both.lay(&damaged.bytes, Words { g: 401, ..words });
+            assert_eq!(answer, Err(expected(21)), "{damage:?}");
         }
     }
-    both.came(9_000, 150, &[1, 2, 3, 16, 17, 4, 6, 7, 8, 9, 10, 11], &[]);
+    both.came(
+        9_000,
+        150,
+        &[1, 2, 3, 16, 17, 21, 4, 6, 7, 8, 9, 10, 11],
+        &[],
+    );
 }
 
 fn number_at(sheet: &[u8], place: usize) -> u16 {
@@ -408,6 +483,7 @@ fn numbers_changed() {
         }
         let q = random.between(1, 20) as usize;
         let words = Words {
+            g: job_gap(&mut random),
             strip: strip_words_of(&sheet, q) + usize::from(random.once_in(12)),
             output: random.pick(&[0, 7, 20, 20, 800, 800, 800]),
             work: random.index(60),
@@ -417,7 +493,7 @@ fn numbers_changed() {
     both.came(
         20_000,
         30,
-        &[0, 1, 2, 3, 16, 17, 4, 6, 7, 8, 9, 10, 11, 15],
+        &[0, 1, 2, 3, 16, 17, 21, 4, 6, 7, 8, 9, 10, 11, 15],
         &[],
     );
 }
@@ -434,13 +510,14 @@ fn any_strip() {
         };
         let q = random.pick(&[1, 2, 3, 5, 9, 40]);
         let words = Words {
+            g: any_gap(&mut random, job.figures.resolution),
             strip: strip_words(job.figures.columns, q),
             output: 12,
             work: 90,
         };
         both.lay(&sheet_of(&mut random, &job), words).ok();
     }
-    both.came(1_200, 150, &[0, 3, 16, 17], &[]);
+    both.came(1_200, 100, &[0, 3, 16, 17, 21], &[]);
 }
 
 /// Each R from 1 to 400, each mask and each N from 1 on: pieces of some columns on
@@ -470,7 +547,13 @@ fn every_resolution() {
         }
         let job = Job { figures, pieces };
         let q = random.between(1, 6) as usize;
-        both.granted(&job, &sheet_of(&mut random, &job), enough(&job, q));
+        let g = if r % 2 == 0 {
+            sound_gap(&mut random, r)
+        } else {
+            0
+        };
+        let words = enough_with_gap(&job, g, q);
+        both.granted(&job, &sheet_of(&mut random, &job), words);
     }
     assert!(laid_with[1..].iter().all(|&times| times > 50));
     both.came(400, 100, &[0], &[0, 13, 14]);
@@ -502,7 +585,7 @@ fn public_job(both: &mut Both, random: &mut Random, job: &mut Job, words: Words,
     for _ in 0..orders {
         random.shuffle(&mut job.pieces);
         let totals = both.granted(job, &sheet_of(random, job), words);
-        let mut plain = Board::open(width, resolution, columns, q);
+        let mut plain = Board::open(width, resolution, columns, words.g, q);
         let placed = job
             .pieces
             .iter()
@@ -511,6 +594,36 @@ fn public_job(both: &mut Both, random: &mut Random, job: &mut Job, words: Words,
         assert_eq!(usize::from(totals.placed), placed);
         assert!(both.runs_left(words) == plain.columns());
     }
+}
+
+/// Counties five and fifty millimetres apart, countries, and Shapes2 with gaps around R.
+#[test]
+fn public_jobs_with_gaps() {
+    let mut both = Both::new();
+    let mut random = Random::new(93);
+    for (file, width, r, n, g, count) in [
+        (data::NC_COUNTIES, 6_000, 100, 100, 40, 30),
+        (data::NC_COUNTIES, 6_000, 40, 160, 400, 12),
+        (data::NATURAL_EARTH, 800, 8, 200, 9, 60),
+        (data::NATURAL_EARTH, 800, 2, 250, 1, 20),
+        (data::SHAPES_2, 15, 1, 25, 1, 5),
+        (data::SHAPES_2, 15, 2, 20, 3, 5),
+    ] {
+        let mut job = Job {
+            figures: Figures {
+                width,
+                resolution: r,
+                columns: n,
+            },
+            pieces: public_pieces(&mut random, file, count, &[1, 2, 15]),
+        };
+        let words = Words {
+            work: 9_000,
+            ..enough_with_gap(&job, g, 2_000)
+        };
+        public_job(&mut both, &mut random, &mut job, words, 2);
+    }
+    both.came(12, 5, &[], &[0]);
 }
 
 fn public_words(job: &Job, q: usize, work: usize) -> Words {
@@ -669,6 +782,7 @@ fn the_piece_with_most_runs() {
     };
     for (work, fate) in [(1_485_029, 12), (1_485_030, 13)] {
         let words = Words {
+            g: 0,
             strip: strip_words(4_096, 16_000),
             output: 12,
             work,
@@ -715,11 +829,23 @@ fn three_squares() {
     }
 }
 
+/// With a gap of 1 they lie a row and a column apart; used columns are the outline's.
+#[test]
+fn three_squares_with_a_gap() {
+    let mut both = Both::new();
+    let job = squares_job(3);
+    let totals = both.granted(&job, &job.sheet(), enough_with_gap(&job, 1, 40));
+    assert_eq!(totals, Totals { placed: 3, used: 5 });
+    let laid = [0, 0, 0, 0, 0, 0, 0, 5, 0, 0, 3, 0];
+    assert_eq!(*both.output.held(12), laid);
+}
+
 /// "16,001 gives 8; 65 vertices 7; 201 pieces 6." An empty job uses nothing.
 #[test]
 fn trial_jobs() {
     let mut both = Both::new();
     let words = Words {
+        g: 0,
         strip: strip_words(10, 6),
         output: 804,
         work: 90,
@@ -765,7 +891,8 @@ fn no_pieces() {
             pieces: Vec::new(),
         };
         let q = random.between(1, 9) as usize;
-        let words = enough(&job, q);
+        let g = sound_gap(&mut random, 2);
+        let words = enough_with_gap(&job, g, q);
         assert_eq!((words.output, words.work), (0, 0));
         let totals = both.granted(&job, &sheet_of(&mut random, &job), words);
         assert_eq!(totals, Totals { placed: 0, used: 0 });

@@ -10,6 +10,7 @@ use reference::generate::{
     SheetDamage, SheetPlan,
 };
 use reference::picture::draw;
+use reference::text::gap_and_sheet;
 use std::path::{Path, PathBuf};
 
 /// The pictures of some sheets.
@@ -51,7 +52,8 @@ fn first_difference<'a>(one: &'a str, other: &'a str) -> Option<(&'a str, &'a st
 
 /// By how the picture says the strip's width, which it does in 100 times as
 /// many units, in units or in hundredths of them.
-fn scale(sheet: &[u8], picture: &str) -> usize {
+fn scale(input: &[u8], picture: &str) -> usize {
+    let (_, sheet) = gap_and_sheet(input);
     let width = u32::from(u16::from_le_bytes([sheet[4], sheet[5]]));
     let says = |width: u32| picture.contains(&format!("<rect class='board' y='-{width}' "));
     if says(100 * width) {
@@ -116,6 +118,28 @@ fn small_jobs() {
     assert!(pictures.with("<polygon") > 250 && pictures.with(" refused 13<") > 100);
     println!("{} of 500 with dashes", pictures.with(DASHES));
     assert!(pictures.with(DASHES) > 150);
+}
+
+/// Gaps of every size in front of the sheet, small and large ones alike.
+#[test]
+fn gaps() {
+    let mut pictures = Pictures::default();
+    let mut random = Random::new(309);
+    for _ in 0..300 {
+        let most = random.pick(&[1, 8, 40, 400]);
+        let line = format!("gap {}\n", f64::from(random.word(1, most)) / 8.0);
+        pictures.draw(&[line.as_bytes(), &job(&mut random).sheet()].concat());
+        let size = random.pick(&[30, 300, 3_000]);
+        let count = random.index(9);
+        let job = Job {
+            figures: figures(16_000, random.pick(&[8, 40, 400]), 4_096),
+            pieces: stroke_pieces(&mut random, count, size),
+        };
+        pictures.draw(&[line.as_bytes(), &job.sheet()].concat());
+    }
+    assert_eq!(pictures.with(">shaded: gap of "), 600);
+    assert_eq!(pictures.with("<path clip-path='url(#strip)' "), 600);
+    assert_eq!(pictures.scales, [300, 300, 0]);
 }
 
 /// What is drawn twice, and what says so.
@@ -327,7 +351,12 @@ fn the_longest_dashes() {
     }
     println!("{} bytes", picture.len());
     assert!(picture.len() > 620_000, "{}", picture.len());
-    assert_eq!(pictures.scales, [0, 0, 1]);
+    // With a gap its vertices are there once more.
+    let picture = pictures.draw(&[b"gap 0.125\n", &plan.bytes()[..]].concat());
+    assert_eq!(picture.matches("<polygon").count(), 200);
+    println!("{} bytes", picture.len());
+    assert!(picture.len() > 800_000, "{}", picture.len());
+    assert_eq!(pictures.scales, [0, 0, 2]);
 }
 
 /// Public outlines, as many as a sheet takes, coarse and fine.

@@ -8,8 +8,8 @@ use engine::guard::Room;
 use engine::plain_place::Board;
 use reference::generate::outlines::zigzag_of;
 use reference::generate::{
-    any_mask, change_words, damaged_strip, outline, random_runs, sound_mask, sound_outline,
-    sound_strip, strip_with, Damage, OutlineKind, Random, StripFigures,
+    any_mask, change_words, damaged_strip, outline, random_runs, small_gap, sound_mask,
+    sound_outline, sound_strip, strip_with, Damage, OutlineKind, Random, StripFigures,
 };
 use reference::{runs, strip_runs, Position, Refusal};
 
@@ -90,9 +90,9 @@ fn shown(strip: &[u16]) -> &[u16] {
 
 /// A strip that the engine opened.
 fn opened(figures: StripFigures) -> Vec<u16> {
-    let StripFigures { w, r, n, q } = figures;
-    let mut strip = vec![0xFFFF; 4 + usize::from(n) + 4 * q];
-    assert_eq!(engine::open(w, r, n, &mut strip), Ok(()));
+    let StripFigures { w, r, n, g, q } = figures;
+    let mut strip = vec![0xFFFF; 5 + usize::from(n) + 4 * q];
+    assert_eq!(engine::open(w, r, n, g, &mut strip), Ok(()));
     strip
 }
 
@@ -107,8 +107,8 @@ struct Piece {
 }
 
 impl Piece {
-    fn new(outline: Vec<u16>, r: u16) -> Piece {
-        let runs = [0, 1, 2, 3].map(|turn| runs(&outline, turn, r).len());
+    fn new(outline: Vec<u16>, r: u16, g: u16) -> Piece {
+        let runs = [0, 1, 2, 3].map(|turn| runs(&outline, turn, r, g).len());
         Piece { outline, runs }
     }
 
@@ -153,17 +153,19 @@ struct List {
 }
 
 /// A list of 1 to 40 calls with up to 8 outlines, some of which come often.
-fn small_list(random: &mut Random) -> List {
+fn small_list(random: &mut Random, with_gap: bool) -> List {
+    let r = random.word(1, 5);
     let figures = StripFigures {
         w: random.word(1, 30),
-        r: random.word(1, 5),
+        r,
         n: random.word(1, 24),
+        g: if with_gap { small_gap(random, r) } else { 0 },
         q: random.between(1, 40) as usize,
     };
     let pieces: Vec<Piece> = (0..random.between(1, 8))
         .map(|_| {
             let size = random.word(2, 9);
-            Piece::new(small_outline(random, size), figures.r)
+            Piece::new(small_outline(random, size), figures.r, figures.g)
         })
         .collect();
     let count = random.between(1, 40).min(random.between(1, 40));
@@ -193,9 +195,9 @@ fn small_list(random: &mut Random) -> List {
 
 /// Lays a list on a strip with so many records; the most runs it ever had.
 fn lay(both: &mut Both, list: &List, q: usize) -> usize {
-    let StripFigures { w, r, n, .. } = list.figures;
-    let mut strip = opened(StripFigures { w, r, n, q });
-    let mut plain = Board::open(w, r, n, q);
+    let StripFigures { w, r, n, g, .. } = list.figures;
+    let mut strip = opened(StripFigures { w, r, n, g, q });
+    let mut plain = Board::open(w, r, n, g, q);
     let mut most = 0;
     for call in &list.calls {
         let outline = &list.pieces[call.piece].outline;
@@ -217,7 +219,7 @@ fn lists_on_small_strips() {
     let mut random = Random::new(41);
     let (mut lists, mut exact) = (0, 0);
     for round in 0..16_000 {
-        let list = small_list(&mut random);
+        let list = small_list(&mut random, round % 3 != 0);
         if round % 4 != 0 {
             lay(&mut both, &list, list.figures.q);
             lists += 1;
@@ -255,11 +257,12 @@ fn strips_in_another_order() {
         let columns = random_runs(&mut random, w, n, most);
         let before: usize = columns.iter().map(Vec::len).sum();
         let size = random.word(2, 7);
-        let piece = Piece::new(small_outline(&mut random, size), r);
+        let g = small_gap(&mut random, r);
+        let piece = Piece::new(small_outline(&mut random, size), r, g);
         let mask = any_mask(&mut random);
         let work = piece.words(mask);
         let mut on = |q: usize, random: &mut Random| {
-            let mut strip = strip_with(random, StripFigures { w, r, n, q }, &columns);
+            let mut strip = strip_with(random, StripFigures { w, r, n, g, q }, &columns);
             let answer = both.place(&mut strip, &piece.outline, mask, work);
             (answer, count_runs(&strip))
         };
@@ -325,7 +328,7 @@ fn public_list(both: &mut Both, figures: StripFigures, outlines: &[Vec<u16>], ma
     let mut strip = opened(figures);
     for outline in outlines {
         let mask = random.pick(masks);
-        let words = Piece::new(outline.clone(), figures.r).words(mask);
+        let words = Piece::new(outline.clone(), figures.r, figures.g).words(mask);
         let short = random.once_in(16);
         let answer = both.place(&mut strip, outline, mask, words - usize::from(short));
         assert_eq!(short, answer.is_err_and(|no| no.number == 12));
@@ -342,6 +345,7 @@ fn public_counties() {
         w: 8_000,
         r: 100,
         n: 80,
+        g: 0,
         q: 1_000,
     };
     public_list(&mut both, coarse, &counties[..30], &[1, 2, 6, 15]);
@@ -350,6 +354,7 @@ fn public_counties() {
         w: 4_000,
         r: 20,
         n: 120,
+        g: 0,
         q: 400,
     };
     public_list(&mut both, fine, &counties[30..50], &[1, 4, 10]);
@@ -366,6 +371,7 @@ fn public_countries() {
         w: 1_000,
         r: 8,
         n: 400,
+        g: 0,
         q: 4_000,
     };
     public_list(&mut both, figures, &countries[..150], &[1, 3, 8, 15]);
@@ -382,6 +388,7 @@ fn public_shapes() {
             w: 15,
             r,
             n,
+            g: 0,
             q: 300,
         };
         for masks in [&[1][..], &[5], &[15]] {
@@ -389,6 +396,59 @@ fn public_shapes() {
         }
     }
     both.came(5, &[0, 12]);
+}
+
+/// Counties five millimetres apart and fifty, Shapes2 with gaps around R.
+#[test]
+fn public_outlines_with_gaps() {
+    let mut both = Both::new();
+    let mut random = Random::new(50);
+    let mut counties = data::outlines(data::NC_COUNTIES);
+    random.shuffle(&mut counties);
+    for (r, n, g, q) in [(100, 120, 40, 2_000), (40, 160, 400, 1_500)] {
+        let w = 8_000;
+        let figures = StripFigures { w, r, n, g, q };
+        public_list(&mut both, figures, &counties[..12], &[1, 2, 6, 15]);
+    }
+    let shapes = vec![data::outlines(data::SHAPES_2); 4].concat();
+    for (r, n) in [(1, 60), (2, 30), (5, 14)] {
+        for g in [1, r - 1, r, r + 1, 7] {
+            let (w, q) = (15, 400);
+            let figures = StripFigures { w, r, n, g, q };
+            public_list(&mut both, figures, &shapes, &[1, 5, 15]);
+        }
+    }
+    both.came(20, &[0, 12]);
+}
+
+/// Strips so low and short that gaps reach past their top and their end, with runs on
+/// them, and the gaps 0, 1, 2, those around R and W, and 400.
+#[test]
+fn gaps_past_the_top_and_the_end() {
+    let mut both = Both::new();
+    let mut random = Random::new(52);
+    for _ in 0..12_000 {
+        let (w, n, r) = (random.word(1, 10), random.word(1, 5), random.word(1, 6));
+        let g = match random.index(16) {
+            0 => 400,
+            1..=6 => random.pick(&[0, 1, 2, w, n * r]),
+            _ => random.word(r - 1, r + 1),
+        };
+        let q = random.between(1, 12) as usize;
+        let most = random.index(q + 1).min(4);
+        let columns = random_runs(&mut random, w, n, most);
+        let figures = StripFigures { w, r, n, g, q };
+        let mut strip = strip_with(&mut random, figures, &columns);
+        let size = random.word(2, 5);
+        let piece = Piece::new(small_outline(&mut random, size), r, g);
+        for _ in 0..3 {
+            let mask = sound_mask(&mut random);
+            let short = usize::from(random.once_in(12));
+            let words = piece.words(mask).saturating_sub(short);
+            let _ = both.place(&mut strip, &piece.outline, mask, words);
+        }
+    }
+    both.came(500, &[0, 12, 13, 14]);
 }
 
 /// A comb put between the teeth of another: a strip with no record free has fewer
@@ -410,6 +470,7 @@ fn a_full_strip_that_a_piece_fills_up() {
             w: 11,
             r: 1,
             n: 4,
+            g: 0,
             q,
         };
         let mut strip = strip_with(&mut Random::new(47), figures, &columns);
@@ -422,6 +483,7 @@ fn a_full_strip_that_a_piece_fills_up() {
             w: 11,
             r: 1,
             n: 4,
+            g: 0,
             q,
         };
         let answer = both.place(&mut opened(figures), &comb, 1, 48);
@@ -443,10 +505,16 @@ fn large_strips() {
     ] {
         for most in [0, q / 2, q] {
             let columns = random_runs(&mut random, w, n, most);
-            let figures = StripFigures { w, r: 3, n, q };
+            let figures = StripFigures {
+                w,
+                r: 3,
+                n,
+                g: 0,
+                q,
+            };
             let mut strip = strip_with(&mut random, figures, &columns);
             for size in [2, 60, 400] {
-                let piece = Piece::new(sound_outline(&mut random, 15, size), figures.r);
+                let piece = Piece::new(sound_outline(&mut random, 15, size), figures.r, 0);
                 let _ = both.place(&mut strip, &piece.outline, 15, piece.words(15));
             }
         }
@@ -462,6 +530,7 @@ fn the_last_position() {
         w: 16_000,
         r: 400,
         n: 4_096,
+        g: 0,
         q: 16_000,
     };
     let unit = [0, 0, 1, 0, 1, 1, 0, 1];
@@ -493,6 +562,7 @@ fn the_largest_pieces() {
             w,
             r: 400,
             n,
+            g: 0,
             q: 40,
         };
         let answer = both.place(&mut opened(figures), &square, 1, 120);
@@ -507,6 +577,7 @@ fn the_largest_pieces() {
         w: 16_000,
         r: 1,
         n: 4_096,
+        g: 0,
         q: 16_000,
     };
     for (work, number) in [(1_485_029, 12), (1_485_030, 13)] {

@@ -5,9 +5,10 @@
 
 use engine::guard::Room;
 use engine::plain_strip;
+use reference::figures::NUMBERS;
 use reference::generate::{
-    any_figures, change_words, damaged_strip, empty_strip, random_runs, sound_strip, strip_with,
-    Damage, Random, StripFigures,
+    any_figures, any_gap, change_words, damaged_strip, empty_strip, random_runs, sound_strip,
+    strip_with, Damage, Random, StripFigures,
 };
 use reference::strip::put_runs;
 use reference::{strip_runs, well_formed, Refusal};
@@ -83,16 +84,16 @@ impl Both {
     }
 
     /// Open on a strip of so many other words; its answer.
-    fn open(&mut self, w: u16, r: u16, n: u16, words: usize) -> Result<(), Refusal> {
+    fn open(&mut self, w: u16, r: u16, n: u16, g: u16, words: usize) -> Result<(), Refusal> {
         let before: Vec<u16> = (0..words).map(|place| !place as u16).collect();
         let (mut expected, mut plain) = (before.clone(), before.clone());
-        let answer = reference::open(w, r, n, &mut expected);
+        let answer = reference::open(w, r, n, g, &mut expected);
         let lent = self.room.lend(&before);
-        let case = format!("open W {w} R {r} N {n} of {words} words");
-        assert_eq!(engine::open(w, r, n, lent), answer, "{case}");
+        let case = format!("open W {w} R {r} N {n} gap {g} of {words} words");
+        assert_eq!(engine::open(w, r, n, g, lent), answer, "{case}");
         assert!(*lent == *expected, "words after {case}");
         assert!(self.room.kept_before(words), "before {case}");
-        assert_eq!(plain_strip::open(w, r, n, &mut plain), answer.is_ok());
+        assert_eq!(plain_strip::open(w, r, n, g, &mut plain), answer.is_ok());
         assert!(plain == expected, "plain: {case}");
         answer
     }
@@ -106,7 +107,7 @@ fn shown(strip: &[u16]) -> &[u16] {
 /// The strip of the same figures with these runs.
 fn written(strip: &[u16], runs: &[Vec<(u16, u16)>]) -> Vec<u16> {
     let mut anew = strip.to_vec();
-    put_runs(&mut anew, strip[0], strip[1], strip[2], runs);
+    put_runs(&mut anew, strip[0], strip[1], strip[2], strip[4], runs);
     anew
 }
 
@@ -141,7 +142,8 @@ fn strips_of_every_kind() {
     assert!(both.strips > 210_000 && both.ill_formed > 160_000 && sound > 40_000);
 }
 
-/// Every strip of W 3, N 1, Q 2 whose other words go one past what they may be.
+/// Every strip of W 3, N 1, gap 400, Q 2 whose other words go one past what they may
+/// be.
 #[test]
 fn every_small_strip() {
     let mut both = Both::new();
@@ -158,7 +160,7 @@ fn every_small_strip() {
         for head in numbers.clone() {
             for first in &records {
                 for second in &records {
-                    let leading = [3, 1, 1, free, head];
+                    let leading = [3, 1, 1, free, 400, head];
                     both.skim(&[&leading[..], first, second].concat());
                 }
             }
@@ -169,10 +171,10 @@ fn every_small_strip() {
     assert_eq!(both.strips - both.ill_formed, 2 + 12 + 2);
 }
 
-/// W 10, R 2, N 2, Q 4: runs 0–4 and 6–8 in column 0, 1–2 in column 1, in an
+/// W 10, R 2, N 2, gap 7, Q 4: runs 0–4 and 6–8 in column 0, 1–2 in column 1, in an
 /// order other than the engine's.
-const SMALL: [u16; 22] = [
-    10, 2, 2, 3, // W, R, N, first free record
+const SMALL: [u16; 23] = [
+    10, 2, 2, 3, 7, // W, R, N, first free record, gap
     4, 1, // each column's first record
     1, 1, 2, 0, // column, low, high, next
     0, 6, 8, 0, //
@@ -187,7 +189,7 @@ fn the_order_of_the_records() {
     assert_eq!(
         strip,
         [
-            10, 2, 2, 4, //
+            10, 2, 2, 4, 7, //
             1, 3, //
             0, 0, 4, 2, //
             0, 6, 8, 0, //
@@ -209,8 +211,8 @@ fn one_word_changed_in_every_way() {
     }
     let sound = both.strips - both.ill_formed;
     println!("strips {}, well formed {sound}", both.strips);
-    // W 8 to 16,000 and R 1 to 400 alone give 16,393.
-    assert!(sound > 16_393 && both.ill_formed > 1_400_000);
+    // W 8 to 16,000, R 1 to 400 and the gaps 0 to 400 alone give 16,794.
+    assert!(sound > 16_794 && both.ill_formed > 1_400_000);
 }
 
 #[test]
@@ -236,7 +238,8 @@ fn every_length() {
 }
 
 fn with_most(random: &mut Random, w: u16, n: u16, q: usize, most: usize) -> Vec<u16> {
-    let figures = StripFigures { w, r: 20, n, q };
+    let (r, g) = (20, random.word(0, 400));
+    let figures = StripFigures { w, r, n, g, q };
     let runs = random_runs(random, w, n, most);
     strip_with(random, figures, &runs)
 }
@@ -264,7 +267,8 @@ fn large_strips() {
             // As many records as runs.
             let q = runs.iter().map(Vec::len).sum();
             if q > 0 {
-                let figures = StripFigures { w, r: 400, n, q };
+                let (r, g) = (400, 400);
+                let figures = StripFigures { w, r, n, g, q };
                 let strip = strip_with(&mut random, figures, &runs);
                 assert_eq!(strip[3], 0);
                 assert!(both.read(&strip));
@@ -281,12 +285,12 @@ fn large_strips() {
     assert!(full >= 20 && changed[0] > 100 && changed[1] > 5);
 }
 
-/// W, R and N at and past their limits, with lengths at and past those of
+/// W, R, N and gap at and past their limits, with lengths at and past those of
 /// question 4.
 #[test]
 fn open_at_every_limit() {
     let mut both = Both::new();
-    let mut numbers = [0; 18];
+    let mut numbers = [0; NUMBERS];
     for w in [0, 1, 2, 15_999, 16_000, 16_001, 32_768, 65_535] {
         for r in [0, 1, 2, 399, 400, 401, 65_535] {
             for n in [0, 1, 2, 4_095, 4_096, 4_097, 65_535] {
@@ -295,19 +299,27 @@ fn open_at_every_limit() {
                     if q > 2 && (r, w) != (1, 16_000) && (r, w) != (401, 1) {
                         continue;
                     }
-                    let least = 4 + usize::from(n.min(4_096)) + 4 * q;
+                    let least = 5 + usize::from(n.min(4_096)) + 4 * q;
+                    let gaps = match q {
+                        1 => &[0, 1, 400, 401, 402, 65_535][..],
+                        _ => &[0],
+                    };
                     for words in least - 3..=least + 3 {
-                        let answer = both.open(w, r, n, words);
-                        numbers[answer.map_or_else(|no| usize::from(no.number), |()| 0)] += 1;
+                        for &g in gaps {
+                            let answer = both.open(w, r, n, g, words);
+                            numbers[answer.map_or_else(|no| usize::from(no.number), |()| 0)] += 1;
+                        }
                     }
                 }
             }
         }
     }
-    println!("granted, 3, 4, 16 and 17: {numbers:?}");
-    // Four each of W, R and N in their limits with Q 1 and 2; four N with Q 15,999 and 16,000.
-    assert_eq!(numbers[0], 4 * 4 * 4 * 2 + 4 * 2);
+    println!("granted, 3, 4, 16, 17 and 21: {numbers:?}");
+    // Four each of W, R and N in their limits with Q 1, thrice, and 2; four N with Q 15,999 and 16,000.
+    assert_eq!(numbers[0], 4 * 4 * 4 * 4 + 4 * 2);
     assert!(numbers[3] > 4_000 && numbers[16] > 1_800 && numbers[17] > 1_000);
+    // Each of seven lengths with three gaps over the limit.
+    assert_eq!(numbers[21], 4 * 4 * 4 * 7 * 3);
     assert!(numbers[4] > 1_200);
 }
 
@@ -317,11 +329,11 @@ fn open_with_every_length() {
     let mut granted = 0;
     for n in 1..=40 {
         for words in 0..=200 {
-            granted += u32::from(both.open(100, 10, n, words).is_ok());
+            granted += u32::from(both.open(100, 10, n, 40, words).is_ok());
         }
     }
-    // From 8 + N words on, each fourth length.
-    let expected: u32 = (1..=40).map(|n| (200 - 8 - n) / 4 + 1).sum();
+    // From 9 + N words on, each fourth length.
+    let expected: u32 = (1..=40).map(|n| (200 - 9 - n) / 4 + 1).sum();
     assert_eq!(granted, expected);
 }
 
@@ -329,22 +341,23 @@ fn open_with_every_length() {
 fn open_with_any_figures() {
     let mut both = Both::new();
     let mut random = Random::new(24);
-    let mut numbers = [0; 18];
+    let mut numbers = [0; NUMBERS];
     for _ in 0..20_000 {
         let figures = any_figures(&mut random);
         let (w, r, n) = (figures.width, figures.resolution, figures.columns);
         let q = random.index(60);
         let words = match random.index(4) {
             0 => random.index(300),
-            _ => 4 + usize::from(n.min(4_097)) + 4 * q,
+            _ => 5 + usize::from(n.min(4_097)) + 4 * q,
         };
-        let answer = both.open(w, r, n, words);
+        let g = any_gap(&mut random, r);
+        let answer = both.open(w, r, n, g, words);
         numbers[answer.map_or_else(|no| usize::from(no.number), |()| 0)] += 1;
     }
-    println!("granted, 3, 4, 16 and 17: {numbers:?}");
-    assert!(numbers[0] > 3_000);
-    for number in [3, 16, 17, 4] {
-        assert!(numbers[number] > 2_000, "{number}");
+    println!("granted, 3, 4, 16, 17 and 21: {numbers:?}");
+    assert!(numbers[0] > 2_000);
+    for number in [3, 16, 17, 21, 4] {
+        assert!(numbers[number] > 1_500, "{number}");
     }
 }
 
@@ -354,7 +367,7 @@ fn what_open_leaves() {
     let mut random = Random::new(25);
     for (n, q) in [(1, 1), (7, 30), (1_000, 4_000), (4_096, 16_000)] {
         let mut strip = empty_strip(&mut random, n, q);
-        assert_eq!(engine::open(16_000, 400, n, &mut strip), Ok(()));
+        assert_eq!(engine::open(16_000, 400, n, 400, &mut strip), Ok(()));
         assert!(engine::well_formed(&strip));
         assert_eq!(engine::decoded(&strip), Some(0));
         let opened = strip.clone();

@@ -4,16 +4,16 @@
 use engine::programs::{Printed, SHEET, SHOW};
 use reference::generate::{
     any_job, damaged_path, damaged_sheet, damaged_text, job, small_figures, sound_path,
-    sound_sheet, stroke_pieces, text_at_limit, text_of_job, CoordinateDamage, Job, PathDamage,
-    Random, ShapeDamage, SheetDamage, TextDamage,
+    sound_sheet, stroke_pieces, text_at_limit, text_of_job, text_with_gap, CoordinateDamage, Job,
+    PathDamage, Random, ShapeDamage, SheetDamage, TextDamage,
 };
 use reference::text::{notes_on_text, sheet_of_text, text_of_sheet};
 use std::collections::BTreeMap;
 use std::path::PathBuf;
 
 /// The messages of program `sheet` about a text, and its refusals of a job.
-const MESSAGES: [&str; 23] = [
-    "a line begins with strip, piece, path or mm",
+const MESSAGES: [&str; 26] = [
+    "a line begins with strip, gap, piece, path or mm",
     "a number is expected",
     "a number is at most 65535 units",
     "one to three digits follow a point",
@@ -28,6 +28,9 @@ const MESSAGES: [&str; 23] = [
     "a text has at most 65535 lines",
     "there is no strip",
     "a text has at most 262144 bytes",
+    "a gap is one length from 0 to 50 mm",
+    "there is one gap",
+    "the gap comes before the pieces",
     "job refused 2 0",
     "job refused 3 0",
     "job refused 16 0",
@@ -93,7 +96,8 @@ fn good_texts() {
     let mut random = Random::new(201);
     for _ in 0..500 {
         let job = job(&mut random);
-        let text = text_of_job(&mut random, &job);
+        let gap = random.once_in(2).then(|| random.word(0, 400));
+        let text = text_with_gap(&mut random, &job, gap);
         let sheet = kinds.run(&text).expect("a good text");
         let shown = SHOW.text(&sheet);
         assert_eq!(shown, text_of_sheet(&sheet));
@@ -147,7 +151,11 @@ fn any_texts() {
     let mut random = Random::new(202);
     for place in 0..2_000 {
         let job = any_job(&mut random);
-        let mut text = text_of_job(&mut random, &job);
+        let gap = random.once_in(2).then(|| random.word(0, 410));
+        let mut text = text_with_gap(&mut random, &job, gap);
+        if random.once_in(100) {
+            text.extend(b"gap 3\n");
+        }
         for _ in 0..random.between(0, 2) {
             let damage = TextDamage::ALL[place % TextDamage::ALL.len()];
             if !text.is_empty() {
@@ -307,6 +315,61 @@ fn sheets() {
             let text = SHOW.text(&damaged.bytes);
             assert_eq!(text, text_of_sheet(&damaged.bytes));
             assert_eq!(text, format!("{}\n", damaged.refusal));
+        }
+    }
+}
+
+/// Lines in front of a sheet, most of which say a gap.
+#[test]
+fn gaps_in_front() {
+    let mut random = Random::new(207);
+    let (mut gaps, mut refused) = (0, 0);
+    for _ in 0..1_000 {
+        let line = front_line(&mut random);
+        let sheet = sound_sheet(&mut random);
+        let text = SHOW.text(&[&line, &sheet[..]].concat());
+        let shown = String::from_utf8_lossy(&line);
+        assert_eq!(
+            text,
+            text_of_sheet(&[&line, &sheet[..]].concat()),
+            "{shown}"
+        );
+        gaps += u32::from(text.contains("\ngap "));
+        refused += u32::from(text == "job refused 1 0\n");
+    }
+    println!("{gaps} gaps, {refused} refused");
+    assert!(gaps >= 300 && refused >= 200);
+}
+
+/// The line of a gap, perhaps with blanks, and with a byte changed or not there.
+fn front_line(random: &mut Random) -> Vec<u8> {
+    let gap = f64::from(random.word(0, 410)) / 8.0;
+    let blanks = random.pick(&[" ", " ", " ", "\t", "  ", "     "]);
+    let end = random.pick(&["\n", "\n", "\n", "\r\n", " \n"]);
+    let mut line = format!("gap{blanks}{gap}{end}").into_bytes();
+    let place = random.index(line.len());
+    match random.index(6) {
+        0 => line[place] = random.pick(b"g0123456789. \tN\n\0"),
+        1 => {
+            line.remove(place);
+        }
+        _ => {}
+    }
+    line
+}
+
+/// A sheet as long as it may be with a line as long as it may be, and longer.
+#[test]
+fn the_longest_input() {
+    let piece = format!("piece 1 0,0 4,0 4,4{}\n", " 4,4".repeat(61));
+    let text = "gap 3\nstrip 10 2 10\n".to_string() + &piece.repeat(168);
+    let written = SHEET.run(text.as_bytes()).output;
+    assert_eq!(written.len(), 6 + 65_536);
+    let sheet = &written[6..];
+    for line in ["", "gap 3\n", "gap 000000000.5\n", "gap 0000000000.5\n"] {
+        for more in [0, 1, 2, 9, 10, 11, 100] {
+            let input = [line.as_bytes(), sheet, &vec![0; more]].concat();
+            assert_eq!(SHOW.text(&input), text_of_sheet(&input), "{line} {more}");
         }
     }
 }

@@ -11,9 +11,15 @@ const T: [u16; 6] = [0, 0, 3, 0, 3, 2];
 const U: [u16; 6] = [0, 0, 3, 2, 0, 2];
 const SIX_BY_TWO: [u16; 8] = [0, 0, 6, 0, 6, 2, 0, 2];
 
+/// A strip without a gap.
 fn opened(w: u16, r: u16, n: u16, q: usize) -> Vec<u16> {
-    let mut strip = vec![0xFFFF; 4 + usize::from(n) + 4 * q];
-    assert_eq!(open(w, r, n, &mut strip), Ok(()));
+    opened_with_gap(w, r, n, 0, q)
+}
+
+fn opened_with_gap(w: u16, r: u16, n: u16, g: u16, q: usize) -> Vec<u16> {
+    let mut strip = vec![0xFFFF; 5 + usize::from(n) + 4 * q];
+    assert_eq!(open(w, r, n, g, &mut strip), Ok(()));
+    assert_eq!(strip[4], g);
     strip
 }
 
@@ -48,10 +54,14 @@ fn placed(strip: &mut [u16], outline: &[u16], mask: u16) -> Result<(u16, u16, u1
     }
 }
 
-/// The runs (column, low, high) in turn 0, or the number of the refusal.
+/// The runs (column, low, high) in turn 0 without a gap, or the number of the refusal.
 fn covered(outline: &[u16], r: u16) -> Result<Vec<[u16; 3]>, u16> {
+    covered_with_gap(outline, r, 0)
+}
+
+fn covered_with_gap(outline: &[u16], r: u16, g: u16) -> Result<Vec<[u16; 3]>, u16> {
     let mut output = [0xFFFF; 90];
-    let runs = cover(outline, 0, r, &mut output).map_err(|refusal| refusal.number)?;
+    let runs = cover(outline, 0, r, g, &mut output).map_err(|refusal| refusal.number)?;
     let (words, rest) = output.split_at(3 * runs as usize);
     assert!(rest.iter().all(|&word| word == 0xFFFF));
     Ok(words.as_chunks().0.to_vec())
@@ -139,6 +149,49 @@ fn six_by_two() {
         let mut strip = opened(w, 2, 10, 6);
         assert_eq!(placed(&mut strip, &SIX_BY_TWO, 3), Ok((turn, 0, 0)));
     }
+}
+
+/// S-4: square S, R 2, gap 3 has 0–7 in four columns, gap 1 in three: "the gap is taken
+/// in unit cells". T with gap 1; gaps over 400.
+#[test]
+fn runs_with_a_gap() {
+    let four = [0, 1, 2, 3].map(|column| [column, 0, 7]);
+    assert_eq!(covered_with_gap(&S, 2, 3), Ok(four.to_vec()));
+    let three = [0, 1, 2].map(|column| [column, 0, 5]);
+    assert_eq!(covered_with_gap(&S, 2, 1), Ok(three.to_vec()));
+    let t = vec![[0, 0, 2], [1, 0, 3], [2, 0, 3], [3, 0, 3]];
+    assert_eq!(covered_with_gap(&T, 1, 1), Ok(t));
+    let two = vec![[0, 0, 404], [1, 0, 404]];
+    assert_eq!(covered_with_gap(&S, 400, 400), Ok(two));
+    for g in [401, 65_535] {
+        assert_eq!(covered_with_gap(&S, 2, g), Err(21));
+        assert_eq!(covered_with_gap(&S, 401, g), Err(16));
+        let refused = open(10, 2, 10, g, &mut [7; 39]).map_err(|refusal| refusal.number);
+        assert_eq!(refused, Err(21));
+    }
+}
+
+/// "Three squares with gap 1"; T then U needs a column more; "Square S, R 2, g 3 on a
+/// strip of 2 columns: 12 words wanted, 2 records used".
+#[test]
+fn positions_with_a_gap() {
+    let mut strip = opened_with_gap(10, 2, 10, 1, 40);
+    for position in [(0, 0, 0), (0, 0, 5), (0, 3, 0)] {
+        assert_eq!(placed(&mut strip, &S, 1), Ok(position));
+    }
+    for (n, answer) in [(7, Ok((0, 4, 0))), (6, Err(13))] {
+        let mut strip = opened_with_gap(2, 1, n, 1, 40);
+        assert_eq!(placed(&mut strip, &T, 1), Ok((0, 0, 0)));
+        assert_eq!(placed(&mut strip, &U, 1), answer);
+    }
+    let mut strip = opened_with_gap(4, 2, 2, 3, 2);
+    let number = |answer: Result<Position, Refusal>| answer.map_err(|refusal| refusal.number);
+    assert_eq!(number(place(&mut strip, &S, 1, &mut [9; 11])), Err(12));
+    assert!(place(&mut strip, &S, 1, &mut [9; 12]).is_ok());
+    assert_eq!(strip_runs(&strip), [[(0, 4)], [(0, 4)]]);
+    assert_eq!(strip, [4, 2, 2, 0, 3, 1, 2, 0, 0, 4, 0, 1, 0, 4, 0]);
+    strip[4] = 401;
+    assert_eq!(number(ask(&strip, &S, 1, &mut [9; 12])), Err(5));
 }
 
 /// Commits where place would not go: U over the tip of T, and where it is off the

@@ -8,12 +8,13 @@
 
 use reference::generate::paths::{any_vertices, sound_path_of};
 use reference::generate::{
-    any_mask, any_path, any_turn, change_words, commit_position, damaged_list, damaged_sheet,
-    damaged_strip, job, outline, random_runs, small_figures, sound_list, sound_outline,
-    sound_pieces, sound_sheet, sound_strip, strip_with, stroke_outline, CommitKind, Damage, Job,
-    ListDamage, OutlineKind, Random, SheetDamage, StripFigures, StrokeKind,
+    any_gap, any_mask, any_path, any_turn, change_words, commit_position, damaged_list,
+    damaged_sheet, damaged_strip, job, outline, random_runs, small_figures, sound_list,
+    sound_outline, sound_pieces, sound_sheet, sound_strip, strip_with, stroke_outline, CommitKind,
+    Damage, Job, ListDamage, OutlineKind, Random, SheetDamage, StripFigures, StrokeKind,
 };
 use reference::sheet::list_words;
+use reference::strip::LEADING;
 use reference::{ask, commit, cover, lay, lay_text, open, place, read, retrace, write};
 use reference::{read_path, strip_runs, well_formed, write_path};
 use reference::{Figures, Position, Refusal};
@@ -139,22 +140,32 @@ fn small_outline(random: &mut Random) -> Vec<u16> {
     }
 }
 
+/// Any gap over its limit, or a small one, since the definitions try every unit
+/// cell within it.
+fn row_gap(random: &mut Random, r: u16) -> u16 {
+    match any_gap(random, r) {
+        over if over > 400 => over,
+        _ => random.word(0, 5),
+    }
+}
+
 fn cover_row(random: &mut Random, table: &mut Table) {
     let outline = small_outline(random);
     let (turn, r) = (any_turn(random), random.word(0, 4));
-    let mut output = vec![9u16; random.index(24)];
+    let g = row_gap(random, r);
+    let mut output = vec![9u16; random.index(30)];
     let before = numbers(&output);
     let length = output.len();
-    let answer = match cover(&outline, turn, r, &mut output) {
+    let answer = match cover(&outline, turn, r, g, &mut output) {
         Ok(runs) => format!("Runs {runs}"),
         Err(refusal) => refused("NotCovered", refusal),
     };
     let outline = numbers(&outline);
     table.row(
-        &format!("coverAnswer {outline} {turn} {r} {length}"),
+        &format!("coverAnswer {outline} {turn} {r} {g} {length}"),
         &answer,
     );
-    let left = format!("coverOutput {outline} {turn} {r} {before} ({answer})");
+    let left = format!("coverOutput {outline} {turn} {r} {g} {before} ({answer})");
     table.row(&left, &numbers(&output));
 }
 
@@ -162,16 +173,18 @@ fn open_row(random: &mut Random, table: &mut Table) {
     let w = random.pick(&[1u16, 10, 16_000, 16_001]);
     let r = random.pick(&[1u16, 3, 400, 401]);
     let n = random.pick(&[1u16, 5, 4_096, 4_097]);
-    let length = 4 + usize::from(n) + random.pick(&[0, 3, 4, 5, 40, 64_000, 64_004]);
-    let answer = match open(w, r, n, &mut vec![7u16; length]) {
+    let g = random.pick(&[0u16, 1, 400, 401]);
+    let length = LEADING + usize::from(n) + random.pick(&[0, 3, 4, 5, 40, 64_000, 64_004]);
+    let answer = match open(w, r, n, g, &mut vec![7u16; length]) {
         Ok(()) => String::from("Opened"),
         Err(refusal) => refused("NotOpened", refusal),
     };
-    table.row(&format!("openAnswer {w} {r} {n} {length}"), &answer);
+    table.row(&format!("openAnswer {w} {r} {n} {g} {length}"), &answer);
 }
 
-/// W, R and N in each call that asks about all three: the one at this place out of
-/// its limits, those before it in them, those after it anywhere.
+/// W, R and N in each call that asks about all three, and the gap where it is
+/// asked after them: the one at this place out of its limits, those before it in
+/// them, those after it anywhere.
 fn limits_row(random: &mut Random, table: &mut Table, wrong: usize) {
     let mut figure = |place: usize, most: u16| match place.cmp(&wrong) {
         Ordering::Less => random.word(1, most),
@@ -179,6 +192,7 @@ fn limits_row(random: &mut Random, table: &mut Table, wrong: usize) {
         Ordering::Greater => random.pick(&[0, 1, most, most + 1]),
     };
     let (w, r, n) = (figure(0, 16_000), figure(1, 400), figure(2, 4_096));
+    let g = random.pick(&[0, 400, 401, 65_535]);
     let pieces = sound_pieces(random, 1, 4);
     let words = list_words(&pieces);
     let figures = Figures {
@@ -187,9 +201,9 @@ fn limits_row(random: &mut Random, table: &mut Table, wrong: usize) {
         columns: n,
     };
     let sheet = Job { figures, pieces }.sheet();
-    let refusal = open(w, r, n, &mut []).expect_err("out of limits");
+    let refusal = open(w, r, n, g, &mut []).expect_err("out of limits");
     table.row(
-        &format!("openAnswer {w} {r} {n} 0"),
+        &format!("openAnswer {w} {r} {n} {g} 0"),
         &refused("NotOpened", refusal),
     );
     let refusal = write(w, r, n, &words, &mut [9; 200]).expect_err("out of limits");
@@ -202,9 +216,9 @@ fn limits_row(random: &mut Random, table: &mut Table, wrong: usize) {
         &format!("readAnswer {bytes} 40"),
         &refused("NotRead", refusal.expect_err("out of limits")),
     );
-    let refusal = lay(&sheet, &mut [3; 30], &mut [9; 4], &mut [1; 40]);
+    let refusal = lay(&sheet, g, &mut [3; 30], &mut [9; 4], &mut [1; 40]);
     table.row(
-        &format!("layAnswer {bytes} 30 4 40"),
+        &format!("layAnswer {bytes} {g} 30 4 40"),
         &refused("NotLaid", refusal.expect_err("out of limits")),
     );
     let text = lay_text(&sheet);
@@ -214,9 +228,9 @@ fn limits_row(random: &mut Random, table: &mut Table, wrong: usize) {
 /// A list of place calls from an opened strip.
 fn list_row(random: &mut Random, table: &mut Table) {
     let (w, r, n) = (random.word(1, 9), random.word(1, 3), random.word(1, 6));
-    let q = random.word(1, 10);
-    let mut strip = vec![0u16; 4 + usize::from(n) + 4 * usize::from(q)];
-    open(w, r, n, &mut strip).expect("figures in their limits");
+    let (g, q) = (random.word(0, 4), random.word(1, 10));
+    let mut strip = vec![0u16; LEADING + usize::from(n) + 4 * usize::from(q)];
+    open(w, r, n, g, &mut strip).expect("figures in their limits");
     let (mut calls, mut answers) = (Vec::new(), Vec::new());
     for _ in 0..random.between(1, 4) {
         let (outline, mask) = (small_outline(random), any_mask(random));
@@ -225,7 +239,7 @@ fn list_row(random: &mut Random, table: &mut Table) {
         answers.push(placed(place(&mut strip, &outline, mask, &mut work)));
     }
     table.row(
-        &format!("listAnswers {w} {r} {n} {q} {}", list(calls)),
+        &format!("listAnswers {w} {r} {n} {g} {q} {}", list(calls)),
         &list(answers),
     );
 }
@@ -234,7 +248,7 @@ fn list_row(random: &mut Random, table: &mut Table) {
 fn small_strip(random: &mut Random) -> Vec<u16> {
     loop {
         let strip = sound_strip(random);
-        if strip[0] <= 12 && strip.len() <= 40 {
+        if strip[0] <= 12 && strip.len() <= 40 && strip[4] <= 6 {
             return strip;
         }
     }
@@ -311,13 +325,20 @@ fn every_commit_rows(random: &mut Random, table: &mut Table) {
         w: random.word(2, 6),
         r: random.word(1, 2),
         n: random.word(2, 5),
+        g: random.word(0, 2),
         q: random.between(1, 4) as usize,
     };
     let StripFigures { w, n, q, .. } = figures;
     let most = random.index(q + 1);
     let runs = random_runs(random, w, n, most);
     let strip = strip_with(random, figures, &runs);
-    let outline = sound_outline(random, 15, 3);
+    let outline = loop {
+        let outline = sound_outline(random, 15, 3);
+        // Few vertices: each position works out the cells anew.
+        if outline.len() <= 12 {
+            break outline;
+        }
+    };
     for turn in 0..4 {
         let answer = |column, height| {
             let at = Position {
@@ -434,13 +455,15 @@ fn lay_row(random: &mut Random, table: &mut Table) {
         }
     };
     let sheet = job.sheet();
-    let mut strip = vec![3u16; 4 + usize::from(job.figures.columns) + 4 * (random.index(14) + 1)];
+    let records = random.index(14) + 1;
+    let mut strip = vec![3u16; LEADING + usize::from(job.figures.columns) + 4 * records];
+    let g = row_gap(random, job.figures.resolution);
     let mut output =
         vec![9u16; (4 * job.pieces.len() + random.index(3)).saturating_sub(random.index(2))];
     let mut work = vec![1u16; random.index(60)];
     let before = numbers(&output);
     let lengths = (strip.len(), output.len(), work.len());
-    let answer = match lay(&sheet, &mut strip, &mut output, &mut work) {
+    let answer = match lay(&sheet, g, &mut strip, &mut output, &mut work) {
         Ok(totals) => format!(
             "Laid (record {{ placed = {}; used = {} }})",
             totals.placed, totals.used
@@ -451,13 +474,13 @@ fn lay_row(random: &mut Random, table: &mut Table) {
     let sheet = numbers(&sheet);
     table.row(
         &format!(
-            "layAnswer {sheet} {} {} {}",
+            "layAnswer {sheet} {g} {} {} {}",
             lengths.0, lengths.1, lengths.2
         ),
         &answer,
     );
     let left = format!(
-        "layOutput {sheet} {before} {} {} ({answer})",
+        "layOutput {sheet} {g} {before} {} {} ({answer})",
         lengths.0, lengths.2
     );
     table.row(&left, &numbers(&output));

@@ -128,6 +128,7 @@ fn board(strip: &[u16]) -> Board {
         w: 10,
         r: 2,
         n: 10,
+        g: 0,
         columns: vec![Vec::new(); 10],
     }
 }
@@ -179,7 +180,7 @@ fn spot_like(
     if !is_small(outline) {
         return None;
     }
-    let piece = turned_piece(outline, turn, board.r);
+    let piece = turned_piece(outline, turn, board.r, board.g);
     (0..40)
         .map(|_| {
             let c = random.between(0, board.n - 1);
@@ -198,11 +199,12 @@ fn is_small(outline: &[u16]) -> bool {
 /// The words that question 12 asks for in the turns of the mask, or some.
 fn words_for(strip: &[u16], outline: &[u16], mask: u16) -> usize {
     let r = strip.get(1).copied().unwrap_or(1);
+    let g = strip.get(4).copied().unwrap_or(0);
     if !is_small(outline) {
         return 60;
     }
     let allowed = (0..4).filter(|turn| mask >> turn & 1 == 1);
-    let most_runs = allowed.map(|turn| runs(outline, turn, r).len()).max();
+    let most_runs = allowed.map(|turn| runs(outline, turn, r, g).len()).max();
     3 * most_runs.unwrap_or(0)
 }
 
@@ -221,6 +223,8 @@ fn any_work(random: &mut Random, needed: usize) -> usize {
 /// commit goes depends on the strip as it stands and on what asks have answered.
 pub struct MixedList {
     size: u16,
+    /// Whether there are large outlines now and then.
+    large: bool,
     /// What most calls lay, so that an outline comes often.
     outlines: Vec<Vec<u16>>,
     /// Commits at the answers of asks so far, with their work buffers.
@@ -243,16 +247,24 @@ impl MixedList {
             .collect();
         MixedList {
             size,
+            large: true,
             outlines,
             answers: Vec::new(),
         }
     }
 
+    /// Most of the time goes into the large ones.
+    pub fn without_large(self) -> MixedList {
+        MixedList {
+            large: false,
+            ..self
+        }
+    }
+
     fn outline(&self, random: &mut Random) -> Vec<u16> {
         match random.index(60) {
-            // Most of the time goes into the large ones.
-            0..=3 => any_outline(random),
-            4..=8 => {
+            0..=3 if self.large => any_outline(random),
+            0..=8 => {
                 let kind = random.pick(&OutlineKind::ALL);
                 outline(random, kind, self.size)
             }

@@ -28,7 +28,7 @@ pub use strips::{
     StripFigures,
 };
 pub use strokes::{stroke_outline, stroke_pieces, StrokeKind};
-pub use texts::{any_job, damaged_text, text_at_limit, text_of_job, TextDamage};
+pub use texts::{any_job, damaged_text, text_at_limit, text_of_job, text_with_gap, TextDamage};
 
 use crate::figures::Figures;
 
@@ -78,6 +78,40 @@ fn any_figure(random: &mut Random, most: u16) -> u16 {
         1 => random.word(0, 65_535),
         2 => random.pick(&[1, most - 1, most]),
         _ => random.word(1, most),
+    }
+}
+
+/// A gap in its limits: none, small, around R, the largest, and any.
+pub fn sound_gap(random: &mut Random, r: u16) -> u16 {
+    match random.index(8) {
+        0 => 0,
+        1 => random.word(1, 2),
+        2 => r.saturating_sub(1).min(400),
+        3 => r.min(400),
+        4 => r.saturating_add(1).min(400),
+        5 => 400,
+        6 => random.word(0, 12),
+        _ => random.word(0, 400),
+    }
+}
+
+/// A gap for small strips, on which there is room beside it most often.
+pub fn small_gap(random: &mut Random, r: u16) -> u16 {
+    match random.index(32) {
+        0 => sound_gap(random, r),
+        1..=9 => 0,
+        10..=15 => 1,
+        16..=21 => random.word(r - 1, r + 1).min(400),
+        _ => random.word(0, 6),
+    }
+}
+
+/// Any gap, most of them in the limits.
+pub fn any_gap(random: &mut Random, r: u16) -> u16 {
+    match random.index(8) {
+        0 => random.pick(&[401, 402, 512, 16_000, 65_535]),
+        1 => random.word(0, 65_535),
+        _ => sound_gap(random, r),
     }
 }
 

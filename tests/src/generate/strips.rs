@@ -2,16 +2,21 @@
 //! strip can be ill formed.
 
 use super::Random;
-use crate::strip::{record_place, Stretch};
+use super::{small_gap, sound_gap};
+use crate::strip::{record_place, Stretch, LEADING};
 
-/// W, R, N and Q of a strip.
+/// W, R, N, gap and Q of a strip.
 #[derive(Clone, Copy, Debug, PartialEq, Eq)]
 pub struct StripFigures {
     pub w: u16,
     pub r: u16,
     pub n: u16,
+    pub g: u16,
     pub q: usize,
 }
+
+/// Where the gap stands.
+const GAP: usize = 4;
 
 const COLUMN: usize = 0;
 const LOW: usize = 1;
@@ -39,12 +44,13 @@ pub fn random_runs(random: &mut Random, w: u16, n: u16, most: usize) -> Vec<Vec<
 /// A strip with these runs, its records numbered at random and its free chain
 /// in any order. Q is at least the number of runs. Limits are not looked at.
 pub fn strip_with(random: &mut Random, figures: StripFigures, runs: &[Vec<Stretch>]) -> Vec<u16> {
-    let StripFigures { w, r, n, q } = figures;
+    let StripFigures { w, r, n, g, q } = figures;
     let mut numbers: Vec<u16> = (1..=q as u16).collect();
     random.shuffle(&mut numbers);
     let mut numbers = numbers.into_iter();
     let mut words = Words::blank(usize::from(n), q);
     words.strip[..3].copy_from_slice(&[w, r, n]);
+    words.strip[GAP] = g;
     for (column, stretches) in runs.iter().enumerate() {
         // From the last run to the first, so that each next is known.
         let mut next = 0;
@@ -53,7 +59,7 @@ pub fn strip_with(random: &mut Random, figures: StripFigures, runs: &[Vec<Stretc
             words.set_record(number, [column as u16, low, high, next]);
             next = number;
         }
-        words.strip[4 + column] = next;
+        words.strip[LEADING + column] = next;
     }
     let mut next = 0;
     for number in numbers {
@@ -67,10 +73,12 @@ pub fn strip_with(random: &mut Random, figures: StripFigures, runs: &[Vec<Stretc
 /// A well-formed small strip with random runs.
 pub fn sound_strip(random: &mut Random) -> Vec<u16> {
     let q = random.between(1, 20) as usize;
+    let r = random.word(1, 5);
     let figures = StripFigures {
         w: random.word(1, 20),
-        r: random.word(1, 5),
+        r,
         n: random.word(1, 8),
+        g: small_gap(random, r),
         q,
     };
     // A full strip now and then.
@@ -81,7 +89,7 @@ pub fn sound_strip(random: &mut Random) -> Vec<u16> {
 
 /// A strip as it may be lent to open: any words, with a right length.
 pub fn empty_strip(random: &mut Random, n: u16, q: usize) -> Vec<u16> {
-    (0..4 + usize::from(n) + 4 * q)
+    (0..LEADING + usize::from(n) + 4 * q)
         .map(|_| random.word(0, 65_535))
         .collect()
 }
@@ -92,14 +100,24 @@ pub fn change_words(random: &mut Random, strip: &mut [u16]) {
     for _ in 0..random.between(1, 3) {
         let (place, other) = (random.index(strip.len()), random.index(strip.len()));
         let word = strip[place];
-        match random.index(6) {
+        match random.index(7) {
             0 => strip[place] = word.wrapping_add(1),
             1 => strip[place] = word.wrapping_sub(1),
             2 => strip[place] = 0,
             3 => strip[place] = strip[other],
             4 => strip[place] = random.word(0, 65_535),
+            5 if strip.len() > GAP => strip[GAP] = other_gap(random),
             _ => strip.swap(place, other),
         }
+    }
+}
+
+/// A gap to stand where another stood: in its limits, or just or far over them.
+fn other_gap(random: &mut Random) -> u16 {
+    match random.index(4) {
+        0 => random.pick(&[401, 402, 65_535]),
+        1 => random.word(401, 65_535),
+        _ => sound_gap(random, 2),
     }
 }
 
@@ -113,7 +131,7 @@ struct Words {
 impl Words {
     fn blank(n: usize, q: usize) -> Words {
         Words {
-            strip: vec![0; 4 + n + 4 * q],
+            strip: vec![0; LEADING + n + 4 * q],
             n,
             q,
         }
@@ -143,7 +161,7 @@ impl Words {
     }
 
     fn column_chain(&self, column: usize) -> Vec<u16> {
-        self.chain(self.strip[4 + column])
+        self.chain(self.strip[LEADING + column])
     }
 
     fn free_chain(&self) -> Vec<u16> {
@@ -170,6 +188,9 @@ pub enum Damage {
     ResolutionOver,
     ColumnsZero,
     ColumnsOver,
+    GapOver,
+    /// The form before S-4, of one word less.
+    NoGapWord,
     /// N is in its limits and the strip has fewer words than heads.
     ColumnsBeyondWords,
     /// N is four more or fewer, for which the length is right with another Q.
@@ -227,13 +248,15 @@ pub enum Damage {
 }
 
 impl Damage {
-    pub const ALL: [Damage; 41] = [
+    pub const ALL: [Damage; 43] = [
         Damage::WidthZero,
         Damage::WidthOver,
         Damage::ResolutionZero,
         Damage::ResolutionOver,
         Damage::ColumnsZero,
         Damage::ColumnsOver,
+        Damage::GapOver,
+        Damage::NoGapWord,
         Damage::ColumnsBeyondWords,
         Damage::ColumnsShifted,
         Damage::NoRecords,
@@ -274,10 +297,12 @@ impl Damage {
 
 /// A strip with nothing wrong but this damage.
 pub fn damaged_strip(random: &mut Random, damage: Damage) -> Vec<u16> {
+    let r = random.word(1, 5);
     let figures = StripFigures {
         w: random.word(20, 40),
-        r: random.word(1, 5),
+        r,
         n: random.word(3, 6),
+        g: sound_gap(random, r),
         q: random.between(12, 16) as usize,
     };
     match damage {
@@ -295,6 +320,10 @@ pub fn damaged_strip(random: &mut Random, damage: Damage) -> Vec<u16> {
         Damage::ColumnsOver => {
             let n = random.pick(&[4_097, 5_000, 65_535]);
             with_runs(random, StripFigures { n, ..figures }).strip
+        }
+        Damage::GapOver => {
+            let g = random.pick(&[401, 402, 512, 65_535]);
+            with_runs(random, StripFigures { g, ..figures }).strip
         }
         Damage::NoRecords => empty_with(random, StripFigures { q: 0, ..figures }),
         Damage::TooManyRecords => {
@@ -341,8 +370,11 @@ fn damaged_words(random: &mut Random, mut words: Words, damage: Damage) -> Vec<u
     let (last, last_free) = (chain[chain.len() - 1], free[free.len() - 1]);
     let n = words.n as u16;
     match damage {
+        Damage::NoGapWord => {
+            words.strip.remove(GAP);
+        }
         Damage::ColumnsBeyondWords => {
-            words.strip[2] = random.word(words.strip.len() as u16 - 3, 4_096);
+            words.strip[2] = random.word(words.strip.len() as u16 - 4, 4_096);
         }
         Damage::ColumnsShifted => {
             let fewer = n >= 5 && random.once_in(2);
@@ -362,7 +394,7 @@ fn damaged_words(random: &mut Random, mut words: Words, damage: Damage) -> Vec<u
         Damage::ColumnsShareTail => words.set(last, NEXT, random.pick(&other_chain)),
         Damage::FreeSharesTail => words.set(last_free, NEXT, some),
         Damage::ColumnRunsIntoFree => words.set(last, NEXT, some_free),
-        Damage::HeadsSwapped => words.strip.swap(4, 5),
+        Damage::HeadsSwapped => words.strip.swap(LEADING, LEADING + 1),
         Damage::WrongColumn => {
             let column = random.pick(&[1 - first_column as u16, 2, n, n + 1, 65_535]);
             words.set(some, COLUMN, column);
@@ -403,7 +435,7 @@ fn damaged_words(random: &mut Random, mut words: Words, damage: Damage) -> Vec<u
         Damage::FreeLow => words.set(some_free, LOW, random.word(1, 65_535)),
         Damage::FreeHigh => words.set(some_free, HIGH, random.word(1, 65_535)),
         Damage::FreeInNoChain => words.strip[3] = free[1],
-        Damage::RunInNoChain => words.strip[4 + first_column] = chain[1],
+        Damage::RunInNoChain => words.strip[LEADING + first_column] = chain[1],
         Damage::ColumnChainCut => words.set(chain[0], NEXT, 0),
         Damage::FreeChainCut => {
             let place = random.index(free.len() - 1);
@@ -415,21 +447,21 @@ fn damaged_words(random: &mut Random, mut words: Words, damage: Damage) -> Vec<u
             words.set(last_free, NEXT, free[place + 1]);
         }
         Damage::RunOnFreeChain => {
-            words.strip[4 + first_column] = chain[1];
+            words.strip[LEADING + first_column] = chain[1];
             words.set(chain[0], NEXT, free[0]);
             words.strip[3] = chain[0];
         }
         Damage::FreeOnColumnChain => {
             words.strip[3] = free[1];
             words.set(free[0], NEXT, chain[0]);
-            words.strip[4 + first_column] = free[0];
+            words.strip[LEADING + first_column] = free[0];
         }
-        Damage::InTwoChains => words.strip[4 + 2] = chain[0],
+        Damage::InTwoChains => words.strip[LEADING + 2] = chain[0],
         Damage::NextPastQ => words.set(some, NEXT, words.past_q(random)),
         Damage::FreeNextPastQ => words.set(some_free, NEXT, words.past_q(random)),
         Damage::HeadPastQ => {
             let column = random.index(words.n);
-            words.strip[4 + column] = words.past_q(random);
+            words.strip[LEADING + column] = words.past_q(random);
         }
         Damage::FirstFreePastQ => words.strip[3] = words.past_q(random),
         _ => unreachable!("made by damaged_strip"),

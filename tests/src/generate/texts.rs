@@ -6,12 +6,20 @@ use crate::figures::Piece;
 /// A job as text, with blanks, comments and empty lines anywhere. From some line
 /// on lengths may be millimetres.
 pub fn text_of_job(random: &mut Random, job: &Job) -> Vec<u8> {
+    text_with_gap(random, job, None)
+}
+
+/// The same with the line of a gap, before the strip or after it.
+pub fn text_with_gap(random: &mut Random, job: &Job, gap: Option<u16>) -> Vec<u8> {
     let figures = job.figures;
+    let first = gap.filter(|_| random.once_in(2));
     let mut text = Text::new(random);
+    text.gap(first);
     text.begin("strip");
     text.length(figures.width);
     text.length(figures.resolution);
     text.number(figures.columns);
+    text.gap(gap.filter(|_| first.is_none()));
     for piece in &job.pieces {
         text.begin("piece");
         text.number(piece.mask);
@@ -87,6 +95,16 @@ impl Text<'_> {
         }
         let plain = !self.random.once_in(8);
         self.written += if plain { "\n" } else { "\r\n" };
+    }
+
+    /// A gap is in millimetres everywhere.
+    fn gap(&mut self, gap: Option<u16>) {
+        if let Some(gap) = gap {
+            self.begin("gap");
+            let elsewhere = std::mem::replace(&mut self.millimetres, true);
+            self.length(gap);
+            self.millimetres = elsewhere;
+        }
     }
 
     fn number(&mut self, number: u16) {

@@ -106,34 +106,52 @@ pub fn other_bytes(length: usize) -> Vec<u8> {
 }
 
 pub fn strip_length(n: u16, q: usize) -> usize {
-    4 + usize::from(n) + 4 * q
+    5 + usize::from(n) + 4 * q
 }
 
-/// A strip just opened.
+/// A strip just opened, without a gap.
 pub fn opened(w: u16, r: u16, n: u16, q: usize) -> Vec<u16> {
-    check_open(w, r, n, strip_length(n, q)).expect("open is granted")
+    opened_with_gap(w, r, n, 0, q)
 }
 
-/// A strip with these runs, records in order.
+pub fn opened_with_gap(w: u16, r: u16, n: u16, g: u16, q: usize) -> Vec<u16> {
+    check_open_with_gap(w, r, n, g, strip_length(n, q)).expect("open is granted")
+}
+
+/// A strip with these runs, records in order, without a gap.
 pub fn strip_of(w: u16, r: u16, q: usize, columns: &[&[(u16, u16)]]) -> Vec<u16> {
+    strip_with_gap(w, r, 0, q, columns)
+}
+
+pub fn strip_with_gap(w: u16, r: u16, g: u16, q: usize, columns: &[&[(u16, u16)]]) -> Vec<u16> {
     let n = columns.len() as u16;
     let mut strip = vec![0; strip_length(n, q)];
     let columns: Vec<Vec<(u16, u16)>> = columns.iter().map(|runs| runs.to_vec()).collect();
-    reference::strip::put_runs(&mut strip, w, r, n, &columns);
+    reference::strip::put_runs(&mut strip, w, r, n, g, &columns);
     assert!(reference::well_formed(&strip));
     strip
 }
 
-/// Cover with an output of this length; the runs it wrote.
+/// Cover without a gap, with an output of this length; the runs it wrote.
 pub fn check_cover(
     outline: &[u16],
     turn: u16,
     r: u16,
     length: usize,
 ) -> Result<Vec<[u16; 3]>, Refusal> {
+    check_cover_with_gap(outline, turn, r, 0, length)
+}
+
+pub fn check_cover_with_gap(
+    outline: &[u16],
+    turn: u16,
+    r: u16,
+    g: u16,
+    length: usize,
+) -> Result<Vec<[u16; 3]>, Refusal> {
     let before = other_words(length);
     let mut output = before.clone();
-    let answer = reference::cover(outline, turn, r, &mut output);
+    let answer = reference::cover(outline, turn, r, g, &mut output);
     match answer {
         Ok(count) => {
             let written = 3 * count as usize;
@@ -153,22 +171,37 @@ pub fn check_cover(
 /// The runs (low, high) column by column of an outline that is covered, from
 /// column 0 to the last that has a run.
 pub fn columns_of(outline: &[u16], turn: u16, r: u16) -> Vec<Vec<(u16, u16)>> {
+    columns_with_gap(outline, turn, r, 0)
+}
+
+pub fn columns_with_gap(outline: &[u16], turn: u16, r: u16, g: u16) -> Vec<Vec<(u16, u16)>> {
     let mut columns = Vec::new();
-    for [column, low, high] in check_cover(outline, turn, r, 2_000_000).expect("cover is granted") {
+    let runs = check_cover_with_gap(outline, turn, r, g, 2_000_000).expect("cover is granted");
+    for [column, low, high] in runs {
         columns.resize(columns.len().max(usize::from(column) + 1), Vec::new());
         columns[usize::from(column)].push((low, high));
     }
     columns
 }
 
-/// Open on a strip of this length; the strip.
+/// Open without a gap on a strip of this length; the strip.
 pub fn check_open(w: u16, r: u16, n: u16, length: usize) -> Result<Vec<u16>, Refusal> {
+    check_open_with_gap(w, r, n, 0, length)
+}
+
+pub fn check_open_with_gap(
+    w: u16,
+    r: u16,
+    n: u16,
+    g: u16,
+    length: usize,
+) -> Result<Vec<u16>, Refusal> {
     let before = other_words(length);
     let mut strip = before.clone();
-    match reference::open(w, r, n, &mut strip) {
+    match reference::open(w, r, n, g, &mut strip) {
         Ok(()) => {
             assert!(reference::well_formed(&strip));
-            assert_eq!(strip[..3], [w, r, n]);
+            assert_eq!((&strip[..3], strip[4]), (&[w, r, n][..], g));
             assert!(reference::strip_runs(&strip).iter().all(Vec::is_empty));
             Ok(strip)
         }
@@ -200,7 +233,7 @@ fn check_laying<T>(
     let answer = with_work(length, |work| call(strip, work));
     if answer.is_ok() {
         assert!(reference::well_formed(strip));
-        assert_eq!(strip[..3], before[..3]);
+        assert_eq!((&strip[..3], strip[4]), (&before[..3], before[4]));
     } else {
         assert_eq!(strip, before, "the strip is kept at a refusal");
     }
@@ -334,12 +367,16 @@ pub struct Laid {
     pub output: Vec<u16>,
 }
 
-/// Lay with a strip, an output and a work buffer of these lengths.
+/// Lay without a gap, with a strip, an output and a work buffer of these lengths.
 pub fn check_lay(sheet: &[u8], lengths: [usize; 3]) -> Result<Laid, Refusal> {
+    check_lay_with_gap(sheet, 0, lengths)
+}
+
+pub fn check_lay_with_gap(sheet: &[u8], g: u16, lengths: [usize; 3]) -> Result<Laid, Refusal> {
     let (strip_before, output_before) = (other_words(lengths[0]), other_words(lengths[1]));
     let (mut strip, mut output) = (strip_before.clone(), output_before.clone());
     let mut work = other_words(lengths[2]);
-    let answer = reference::lay(sheet, &mut strip, &mut output, &mut work);
+    let answer = reference::lay(sheet, g, &mut strip, &mut output, &mut work);
     assert!(
         work.iter().all(|&word| word == 0),
         "the work buffer is zero"
@@ -347,6 +384,7 @@ pub fn check_lay(sheet: &[u8], lengths: [usize; 3]) -> Result<Laid, Refusal> {
     match answer {
         Ok(totals) => {
             assert!(reference::well_formed(&strip));
+            assert_eq!(strip[4], g);
             Ok(Laid {
                 totals,
                 strip,

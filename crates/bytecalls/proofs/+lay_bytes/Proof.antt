@@ -18,7 +18,7 @@ use Rattle.bytecalls.proofs.+lay_bytes.{statement}
 use Rattle.bytecalls.proofs.+lay_bytes.Tie.{close}
 
 abbrev μ-lay-bytes : Measures 4 lay-bytes-kinds.ps ℕ
-μ-lay-bytes κs a = length (a .1 .1 .1 .0 .now)
+μ-lay-bytes κs a = length (a .1 .1 .1 .1 .0 .now)
 
 abbrev lay-bytes-at : ℕ → In 4 lay-bytes-kinds.ps
 lay-bytes-at t = and 4 lay-bytes-kinds.ps (is 4 lay-bytes-kinds.ps μ-lay-bytes t) lay-bytes.Pre

@@ -1,9 +1,8 @@
 -- As for put_large. Assumes nothing.
 use mathlib.Core.Path.{sym}
 use borrow.Author.Needs.{needs}
-use Rattle.byteput.proofs.Caps.{capped}
 use Rattle.byteput.proofs.Parts.{part-fits, part-long, lesser-most, part-is}
-use Rattle.bytecalls.proofs.Laid.{lay-more}
+use Rattle.bytecalls.proofs.Laid.{lay-some}
 use Rattle.bytecalls.proofs.lay_large.Statement.{statement}
 use Rattle.bytecalls.proofs.lay_large.Tie as tie
 
@@ -26,7 +25,7 @@ same-length-2 : tie.Need-same-length-2
 same-length-2 c = search needs
 
 returns : tie.Need-returns
-returns c = lay-more (capped (part-is _ _ (c .before .before .before .before .before .before .before .before .before .lesser .ensures))) (c .before .before .before .before .before .lay-with .ensures)
+returns c = lay-some (part-is _ _ (c .before .before .before .before .before .before .before .before .before .lesser .ensures)) (c .before .before .before .before .before .lay-with .ensures)
 
 pub lay-large-spec : {M : Type 1} → statement M
 lay-large-spec =

@@ -1,9 +1,9 @@
 -- As for put_small. Assumes nothing.
-use mathlib.Core.Path.{sym}
-use mathlib.Core.Logic.{inl}
+use mathlib.Core.Path.{sym, _∙_}
+use native.Mathlib.Omega.{arith}
 use borrow.Author.Needs.{needs}
 use Rattle.byteput.proofs.Parts.{part-fits, part-long}
-use Rattle.bytecalls.proofs.Laid.{lay-more}
+use Rattle.bytecalls.proofs.Laid.{lay-some}
 use Rattle.bytecalls.proofs.lay_small.Statement.{statement}
 use Rattle.bytecalls.proofs.lay_small.Tie as tie
 
@@ -23,7 +23,7 @@ same-length-2 : tie.Need-same-length-2
 same-length-2 c = search needs
 
 returns : tie.Need-returns
-returns c = lay-more (inl (part-long _ (c .before .before .before .before .before .before .before .before .before .before .before .before .pre))) (c .before .before .before .before .before .lay-with .ensures)
+returns c = lay-some (part-long _ (c .before .before .before .before .before .before .before .before .before .before .before .before .pre) ∙ omega (arith, c .before .before .before .before .before .before .before .before .before .before .before .before .pre)) (c .before .before .before .before .before .lay-with .ensures)
 
 pub lay-small-spec : {M : Type 1} → statement M
 lay-small-spec =

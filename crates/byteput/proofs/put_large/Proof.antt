@@ -1,8 +1,7 @@
--- The part that is lent has as many words as are told, or as many as any outline needs. Assumes nothing.
+-- The part that is lent has as many words as are told, or as many as are used. Assumes nothing.
 use mathlib.Core.Path.{sym}
-use Rattle.byteput.proofs.Caps.{capped}
 use Rattle.byteput.proofs.Parts.{part-fits, part-long, lesser-most, part-is}
-use Rattle.byteput.proofs.Calls.{put-more}
+use Rattle.byteput.proofs.Calls.{put-some}
 use borrow.Author.Needs.{needs}
 use Rattle.byteput.proofs.put_large.Statement.{statement}
 use Rattle.byteput.proofs.put_large.Tie as tie
@@ -23,7 +22,7 @@ same-length : tie.Need-same-length
 same-length c = search needs
 
 returns : tie.Need-returns
-returns c = put-more (capped (part-is _ _ (c .before .before .before .before .before .before .lesser .ensures))) (c .before .before .before .put-with .ensures)
+returns c = put-some (part-is _ _ (c .before .before .before .before .before .before .lesser .ensures)) (c .before .before .before .put-with .ensures)
 
 pub put-large-spec : {M : Type 1} → statement M
 put-large-spec =

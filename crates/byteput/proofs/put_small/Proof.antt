@@ -1,8 +1,8 @@
 -- The part that is lent has as many words as are told. Assumes nothing.
-use mathlib.Core.Path.{sym}
-use mathlib.Core.Logic.{inl}
+use mathlib.Core.Path.{sym, _∙_}
+use native.Mathlib.Omega.{arith}
 use Rattle.byteput.proofs.Parts.{part-fits, part-long}
-use Rattle.byteput.proofs.Calls.{put-more}
+use Rattle.byteput.proofs.Calls.{put-some}
 use borrow.Author.Needs.{needs}
 use Rattle.byteput.proofs.put_small.Statement.{statement}
 use Rattle.byteput.proofs.put_small.Tie as tie
@@ -20,7 +20,7 @@ same-length : tie.Need-same-length
 same-length c = search needs
 
 returns : tie.Need-returns
-returns c = put-more (inl (part-long _ (c .before .before .before .before .before .before .before .before .before .pre .1))) (c .before .before .before .put-with .ensures)
+returns c = put-some (part-long _ (c .before .before .before .before .before .before .before .before .before .pre .1) ∙ omega (arith, c .before .before .before .before .before .before .before .before .before .pre .1)) (c .before .before .before .put-with .ensures)
 
 pub put-small-spec : {M : Type 1} → statement M
 put-small-spec =

@@ -6,7 +6,7 @@ use mathlib.Core.Path.{_≡_}
 use Prim.Native.Nat.{_≤_, _-_}
 use lib.ListN.{length}
 use Rattle.defs.specs.Meaning.Turn.{turned}
-use Rattle.slabs.specs.Slab.{InUnits}
+use Rattle.geom.specs.Units.{InUnits}
 use Rattle.gaps.specs.Gaps.{Adds}
 use Rattle.column.specs.Rows.{Working}
 use Rattle.column.proofs.Parts.{part-neat}

@@ -10,13 +10,13 @@ use Rattle.columnentry.proofs.add_runs.Statement.{statement}
 use Rattle.columnentry.proofs.add_runs.Tie as tie
 
 abbrev Inv-loop : tie.InvT-loop
-Inv-loop runs a e lows₀ highs₀ base t y i₀ u₀ lows highs i u = (a ≤ i) × (i ≤ e) × Added lows₀ highs₀ lows highs runs base t u y a i
+Inv-loop runs a e lows₀ highs₀ base t y top i₀ u₀ lows highs i u = (a ≤ i) × (i ≤ e) × Added lows₀ highs₀ lows highs runs base t u top y a i
 
 abbrev μ-loop : tie.MeasureT-loop
-μ-loop runs a e lows₀ highs₀ base t y i₀ u₀ lows highs i u = e - i
+μ-loop runs a e lows₀ highs₀ base t y top i₀ u₀ lows highs i u = e - i
 
 loop-holds : tie.Need-loop-holds Inv-loop μ-loop
-loop-holds c = (search needs, search needs, added-none _ _ _ (c .before .before .before .pre .1 .0))
+loop-holds c = (omega arith, c .before .before .before .pre .1 .1 .0, added-none _ _ _ _ (c .before .before .before .pre .1 .0))
 
 mul-join-from : tie.Need-mul-join-from Inv-loop μ-loop
 mul-join-from c = search needs
@@ -33,26 +33,34 @@ shared-slice-read-join-from c = omega (arith, run-fits (c .before .before .befor
 add-join-from-2 : tie.Need-add-join-from-2 Inv-loop μ-loop
 add-join-from-2 c = omega (arith, run-fits (c .before .before .before .before .before .before .before .before .pre .0) (c .before .before .before .before .loop .i) (omega arith))
 
-mul-join-from-3 : tie.Need-mul-join-from-3 Inv-loop μ-loop
-mul-join-from-3 c = search needs
+mul-less : tie.Need-mul-less Inv-loop μ-loop
+mul-less c = search needs
 
-add-join-from-3 : tie.Need-add-join-from-3 Inv-loop μ-loop
-add-join-from-3 c = search needs
+add-less : tie.Need-add-less Inv-loop μ-loop
+add-less c = search needs
 
-mul-join-from-4 : tie.Need-mul-join-from-4 Inv-loop μ-loop
-mul-join-from-4 c = search needs
+mul-less-2 : tie.Need-mul-less-2 Inv-loop μ-loop
+mul-less-2 c = search needs
 
-shared-slice-read-join-from-2 : tie.Need-shared-slice-read-join-from-2 Inv-loop μ-loop
-shared-slice-read-join-from-2 c = omega (arith, run-fits (c .before .before .before .before .before .before .before .before .before .pre .0) (c .before .before .before .before .before .loop .i) (omega arith))
+shared-slice-read-less : tie.Need-shared-slice-read-less Inv-loop μ-loop
+shared-slice-read-less c = omega (arith, run-fits (c .before .before .before .before .before .before .before .before .before .pre .0) (c .before .before .before .before .before .loop .i) (omega arith))
 
-add-join-from-4 : tie.Need-add-join-from-4 Inv-loop μ-loop
-add-join-from-4 c = omega (arith, run-fits (c .before .before .before .before .before .before .before .before .before .pre .0) (c .before .before .before .before .before .loop .i) (omega arith))
+add-less-2 : tie.Need-add-less-2 Inv-loop μ-loop
+add-less-2 c = omega (arith, run-fits (c .before .before .before .before .before .before .before .before .before .pre .0) (c .before .before .before .before .before .loop .i) (omega arith))
+
+less-requires : tie.Need-less-requires Inv-loop μ-loop
+less-requires c κs = search needs
 
 join-from-requires : tie.Need-join-from-requires Inv-loop μ-loop
 join-from-requires c κs =
-    let room = c .before .before .before .before .before .loop .inv .2 .room in
-    let fits = run-fits (c .before .before .before .before .before .before .before .before .before .pre .0) (c .before .before .before .before .before .loop .i) (omega arith) in
-    (room .runs, ((room .start, omega (arith, room-left room, room .lows), omega (arith, room-left room, room .highs)), omega arith))
+    let room = c .before .before .before .before .before .before .loop .inv .2 .room in
+    let fits = run-fits (c .before .before .before .before .before .before .before .before .before .before .pre .0) (c .before .before .before .before .before .before .loop .i) (omega arith) in (
+      room .runs,
+      (
+        (room .start, omega (arith, room-left room, room .lows), omega (arith, room-left room, room .highs)),
+        omega (arith, fits, c .less .ensures),
+      ),
+    )
 
 add-i : tie.Need-add-i Inv-loop μ-loop
 add-i c = search needs
@@ -62,11 +70,11 @@ loop-less c = search needs
 
 loop-again : tie.Need-loop-again Inv-loop μ-loop
 loop-again c =
-    let fits = run-fits (c .before .before .before .before .before .before .before .before .before .before .before .before .before .before .pre .0) (c .before .before .before .before .before .before .before .before .before .before .loop .i) (omega arith) in
-    let added = c .before .before .before .before .before .before .before .before .before .before .loop .inv .2 in (
+    let fits = run-fits (c .before .before .before .before .before .before .before .before .before .before .before .before .before .before .before .pre .0) (c .before .before .before .before .before .before .before .before .before .before .before .loop .i) (omega arith) in
+    let added = c .before .before .before .before .before .before .before .before .before .before .before .loop .inv .2 in (
       search needs,
       search needs,
-      added-more added (omega arith) (c .before .before .before .before .join-from .ensures) (search needs) (search needs) (fits .2),
+      added-more added (omega arith) (c .before .before .before .before .join-from .ensures) (c .before .before .before .before .before .less .ensures) (search needs) (search needs) (fits .4),
     )
 
 same-length : tie.Need-same-length Inv-loop μ-loop
@@ -90,11 +98,12 @@ add-runs-spec =
     mul-join-from-2
     shared-slice-read-join-from
     add-join-from-2
-    mul-join-from-3
-    add-join-from-3
-    mul-join-from-4
-    shared-slice-read-join-from-2
-    add-join-from-4
+    mul-less
+    add-less
+    mul-less-2
+    shared-slice-read-less
+    add-less-2
+    less-requires
     join-from-requires
     add-i
     loop-less

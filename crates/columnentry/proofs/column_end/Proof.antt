@@ -31,7 +31,7 @@ cast-if1 : tie.Need-cast-if1 Inv-loop μ-loop
 cast-if1 c = omega (arith, c .shared-slice-known .given (3 * c .before .before .loop .e))
 
 add-if1 : tie.Need-add-if1 Inv-loop μ-loop
-add-if1 c = omega (arith, run-fits (c .before .before .before .pre .0) (c .before .before .loop .e) (omega arith))
+add-if1 c = omega (arith, c .shared-slice-known .given (3 * c .before .before .loop .e), run-fits (c .before .before .before .pre .0) (c .before .before .loop .e) (omega arith))
 
 returns : tie.Need-returns Inv-loop μ-loop
 returns c = split-next (c .before .before .before .before .pre .0) (omega arith) (c .before .before .before .loop .inv .1) (λ _. c .if1 .taken)

@@ -12,7 +12,9 @@ refused-requires : tie.Need-refused-requires
 refused-requires c κs = search needs
 
 returns : tie.Need-returns
-returns c = refused-on (c .refused .ensures) (to-ten _ _ _ _ _ _ _ _ (c .before .before .turn-no .ensures) (omega (arith, c .before .if1 .taken)))
+returns c =
+    refused-on (c .refused .ensures)
+    (to-ten _ _ _ _ _ _ _ _ _ (c .before .before .turn-no .ensures) (omega (arith, c .before .if1 .taken)))
 
 commit-runs-requires : tie.Need-commit-runs-requires
 commit-runs-requires c κs = search needs

@@ -3,7 +3,8 @@
 use mathlib.Core.Path.{refl}
 use native.Mathlib.Omega.{arith}
 use borrow.Author.Needs.{needs}
-use Rattle.cover.proofs.Steps.{lent, turn-limit, keeps, in-limits, counted, step-11, step-12, step-runs, count-fits}
+use Rattle.outline.proofs.Limit.{extent-limit}
+use Rattle.cover.proofs.Steps.{lent, turn-limit, keeps, in-limits, gap-limit, counted, step-11, step-12, step-runs, count-fits}
 use Rattle.cover.proofs.cover_runs.Statement.{statement}
 use Rattle.cover.proofs.cover_runs.Tie as tie
 
@@ -18,7 +19,7 @@ slice-aggregate-put-runs c = search needs
 
 put-runs-requires : tie.Need-put-runs-requires
 put-runs-requires c κs =
-    (lent (c .before .before .before .before .before .pre), (c .before .before .bounds-of .ensures, ((turn-limit (c .before .before .before .before .before .pre), c .before .extent-of .ensures .0), (keeps (c .before .before .before .before .before .pre), in-limits (c .before .before .before .before .before .pre)))))
+    (lent (c .before .before .before .before .before .pre), (c .before .before .bounds-of .ensures, ((turn-limit (c .before .before .before .before .before .pre), c .before .extent-of .ensures .0), (keeps (c .before .before .before .before .before .pre), (in-limits (c .before .before .before .before .before .pre), gap-limit (c .before .before .before .before .before .pre))))))
 
 refused-requires : tie.Need-refused-requires
 refused-requires c κs = search needs
@@ -48,11 +49,12 @@ write-runs-requires c κs = (
   ),
 )
 
-cast-t20 : tie.Need-cast-t20
-cast-t20 c =
+cast-t21 : tie.Need-cast-t21
+cast-t21 c =
+    let pre = c .before .before .before .before .before .before .before .before .before .before .before .before .before .before .pre in
     let fits =
-    count-fits (in-limits (c .before .before .before .before .before .before .before .before .before .before .before .before .before .before .pre) .least) (c .before .before .before .before .before .before .before .before .put-runs .ensures) (c .before .before .before .before .before .before .before .before .before .before .extent-of .ensures .0) (c .before .before .before .before .before .before .before .before .before .before .extent-of .ensures .1)
-    (omega arith) (omega arith) in
+    count-fits (in-limits pre .least) (c .before .before .before .before .before .before .before .before .put-runs .ensures) (c .before .before .before .before .before .before .before .before .before .before .extent-of .ensures .0) (c .before .before .before .before .before .before .before .before .before .before .extent-of .ensures .1)
+    (omega (arith, extent-limit (lent pre) (c .before .before .before .before .before .before .before .before .before .before .before .bounds-of .ensures) _ (turn-limit pre), c .before .before .before .before .before .before .before .before .before .before .extent-of .ensures .0)) (gap-limit pre) (omega arith) in
     omega arith
 
 same-length : tie.Need-same-length
@@ -76,6 +78,6 @@ cover-runs-spec =
     returns-2
     slice-aggregate-write-runs
     write-runs-requires
-    cast-t20
+    cast-t21
     same-length
     returns-3)

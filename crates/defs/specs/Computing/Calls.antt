@@ -19,11 +19,11 @@ use Rattle.defs.specs.declared.Asking.the-variants.{Found, Refused as No
 use Rattle.defs.specs.declared.Committing.{Committing}
 use Rattle.defs.specs.declared.Committing.the-variants.{Committed, Refused as NotCommitted}
 use Rattle.defs.specs.Meaning.Limits.{mostCoordinate, mostMask, mostTurn, leadingWords, recordWords}
-use Rattle.defs.specs.Meaning.Strip.{widthOf, resolutionOf, columnsOf}
+use Rattle.defs.specs.Meaning.Strip.{widthOf, resolutionOf, columnsOf, gapOf}
 use Rattle.defs.specs.Meaning.Placing.{endColumn, top}
 use Rattle.defs.specs.Computing.Test.{ask, all}
 use Rattle.defs.specs.Computing.Cells.{Rows, pieceRuns, countRuns, ordersb, mostRuns}
-use Rattle.defs.specs.Computing.Words.{limitsNo, resolutionb, lengthb, wellFormedb, recordsOf, runsOf, columnsRuns, written}
+use Rattle.defs.specs.Computing.Words.{figuresNo, resolutionb, gapb, lengthb, wellFormedb, recordsOf, runsOf, columnsRuns, written}
 use Rattle.defs.specs.Computing.Search.{freeb, dropN, bestBelow, entered}
 
 abbrev pub refusal : ℕ → ℕ → Refusal
@@ -41,18 +41,18 @@ unfoldable pub q9b : ℕ → Bool
 q9b mask = leb 1 mask && leb mask mostMask
 
 unfoldable pub q11b : List ℕ → ℕ → ℕ → Bool
-q11b o mask R = ltb 0 (mostRuns o mask R 4)
+q11b o mask R = ltb 0 (mostRuns o mask R 0 4)
 
-unfoldable pub q12b : List ℕ → ℕ → ℕ → ℕ → Bool
-q12b o mask R words = leb (3 * mostRuns o mask R 4) words
+unfoldable pub q12b : List ℕ → ℕ → ℕ → ℕ → ℕ → Bool
+q12b o mask R g words = leb (3 * mostRuns o mask R g 4) words
 
-unfoldable pub q14b : ℕ → ℕ → ℕ → List (List Rows) → List ℕ → Position → Bool
-q14b W R Q held o p = leb (countRuns (entered W R held o p)) Q
+unfoldable pub q14b : ℕ → ℕ → ℕ → ℕ → List (List Rows) → List ℕ → Position → Bool
+q14b W R g Q held o p = leb (countRuns (entered W R g held o p)) Q
 
-unfoldable pub q18b : ℕ → ℕ → ℕ → List (List Rows) → List ℕ → Position → Bool
-q18b W R N held o p =
+unfoldable pub q18b : ℕ → ℕ → ℕ → ℕ → List (List Rows) → List ℕ → Position → Bool
+q18b W R N g held o p =
     (leb (endColumn R o p) N && leb (top o p) W) &&
-    freeb (p .height) (pieceRuns o (p .turn) R) (dropN (p .column) held)
+    freeb (p .height) (pieceRuns o (p .turn) R g) (dropN (p .column) held)
 
 -- The first of 7 to 11 that gets "no", else 0. `ninth` is the answer to 9.
 unfoldable pub outlineNo : List ℕ → Bool → ℕ → ℕ → ℕ
@@ -66,44 +66,45 @@ outlineNo o ninth mask R =
 
 -- open
 
-unfoldable pub openAnswer : ℕ → ℕ → ℕ → ℕ → Opening
-openAnswer W R N words =
-    let no = limitsNo W R N in
+unfoldable pub openAnswer : ℕ → ℕ → ℕ → ℕ → ℕ → Opening
+openAnswer W R N g words =
+    let no = figuresNo W R N g in
     ask (eqb no 0) (NotOpened (refusal no 0)) λ _.
     ask (lengthb N words) (NotOpened (refusal 4 0)) λ _.
     Opened
 
 -- cover
 
-unfoldable pub coverAnswer : List ℕ → ℕ → ℕ → ℕ → Covering
-coverAnswer o t R words =
+unfoldable pub coverAnswer : List ℕ → ℕ → ℕ → ℕ → ℕ → Covering
+coverAnswer o t R g words =
     ask (resolutionb R) (NotCovered (refusal 16 0)) λ _.
+    ask (gapb g) (NotCovered (refusal 21 0)) λ _.
     let no = outlineNo o (leb t mostTurn) (2 ^ t) R in
     ask (eqb no 0) (NotCovered (refusal no 1)) λ _.
-    ask (q12b o (2 ^ t) R words) (NotCovered (refusal 12 1)) λ _.
-    Runs (countRuns (pieceRuns o t R))
+    ask (q12b o (2 ^ t) R g words) (NotCovered (refusal 12 1)) λ _.
+    Runs (countRuns (pieceRuns o t R g))
 
 -- place
 
 -- 13 and 14, for the best position or none
-unfoldable pub choose : ℕ → ℕ → ℕ → List (List Rows) → List ℕ → Option Position → Placing
-choose W R Q held o none = NotPlaced (refusal 13 1)
-choose W R Q held o (some p) =
-    ask (q14b W R Q held o p) (NotPlaced (refusal 14 1)) λ _.
+unfoldable pub choose : ℕ → ℕ → ℕ → ℕ → List (List Rows) → List ℕ → Option Position → Placing
+choose W R g Q held o none = NotPlaced (refusal 13 1)
+choose W R g Q held o (some p) =
+    ask (q14b W R g Q held o p) (NotPlaced (refusal 14 1)) λ _.
     Placed p
 
 -- on a strip that holds these runs, column by column
-unfoldable pub placeOn : ℕ → ℕ → ℕ → ℕ → List (List Rows) → List ℕ → ℕ → ℕ → Placing
-placeOn W R N Q held o mask words =
+unfoldable pub placeOn : ℕ → ℕ → ℕ → ℕ → ℕ → List (List Rows) → List ℕ → ℕ → ℕ → Placing
+placeOn W R N g Q held o mask words =
     let no = outlineNo o (q9b mask) mask R in
     ask (eqb no 0) (NotPlaced (refusal no 1)) λ _.
-    ask (q12b o mask R words) (NotPlaced (refusal 12 1)) λ _.
-    choose W R Q held o (bestBelow W R N held o mask 4)
+    ask (q12b o mask R g words) (NotPlaced (refusal 12 1)) λ _.
+    choose W R g Q held o (bestBelow W R N g held o mask 4)
 
 unfoldable pub placeAnswer : List ℕ → List ℕ → ℕ → ℕ → Placing
 placeAnswer s o mask words =
     ask (wellFormedb s) (NotPlaced (refusal 5 0)) λ _.
-    placeOn (widthOf s) (resolutionOf s) (columnsOf s) (recordsOf (columnsOf s) (length s)) (columnsRuns s) o mask words
+    placeOn (widthOf s) (resolutionOf s) (columnsOf s) (gapOf s) (recordsOf (columnsOf s) (length s)) (columnsRuns s) o mask words
 
 -- ask: "the position that place would give, or its number"
 
@@ -117,19 +118,19 @@ askAnswer s o mask words = shown (placeAnswer s o mask words)
 -- commit: "asks what place asks with that turn alone allowed", 18 "instead of 13"
 
 -- on a strip that holds these runs, column by column
-unfoldable pub commitOn : ℕ → ℕ → ℕ → ℕ → List (List Rows) → List ℕ → Position → ℕ → Committing
-commitOn W R N Q held o p words =
+unfoldable pub commitOn : ℕ → ℕ → ℕ → ℕ → ℕ → List (List Rows) → List ℕ → Position → ℕ → Committing
+commitOn W R N g Q held o p words =
     let no = outlineNo o (leb (p .turn) mostTurn) (2 ^ p .turn) R in
     ask (eqb no 0) (NotCommitted (refusal no 1)) λ _.
-    ask (q12b o (2 ^ p .turn) R words) (NotCommitted (refusal 12 1)) λ _.
-    ask (q18b W R N held o p) (NotCommitted (refusal 18 0)) λ _.
-    ask (q14b W R Q held o p) (NotCommitted (refusal 14 1)) λ _.
+    ask (q12b o (2 ^ p .turn) R g words) (NotCommitted (refusal 12 1)) λ _.
+    ask (q18b W R N g held o p) (NotCommitted (refusal 18 0)) λ _.
+    ask (q14b W R g Q held o p) (NotCommitted (refusal 14 1)) λ _.
     Committed
 
 unfoldable pub commitAnswer : List ℕ → List ℕ → Position → ℕ → Committing
 commitAnswer s o p words =
     ask (wellFormedb s) (NotCommitted (refusal 5 0)) λ _.
-    commitOn (widthOf s) (resolutionOf s) (columnsOf s) (recordsOf (columnsOf s) (length s)) (columnsRuns s) o p words
+    commitOn (widthOf s) (resolutionOf s) (columnsOf s) (gapOf s) (recordsOf (columnsOf s) (length s)) (columnsRuns s) o p words
 
 -- What is left in the buffers.
 
@@ -142,9 +143,9 @@ unfoldable pub runsWords : ℕ → List (List Rows) → List ℕ
 runsWords i [] = []
 runsWords i (c ∷ cs) = rowsWords i c ++ runsWords (i + 1) cs
 
-unfoldable pub coverOutput : List ℕ → ℕ → ℕ → List ℕ → Covering → List ℕ
-coverOutput o t R out (Runs n) = runsWords 0 (pieceRuns o t R) ++ drop (3 * n) out
-coverOutput o t R out (NotCovered r) = out
+unfoldable pub coverOutput : List ℕ → ℕ → ℕ → ℕ → List ℕ → Covering → List ℕ
+coverOutput o t R g out (Runs n) = runsWords 0 (pieceRuns o t R g) ++ drop (3 * n) out
+coverOutput o t R g out (NotCovered r) = out
 
 -- "A work buffer is zero after each call."
 abbrev pub cleared : List ℕ → List ℕ
@@ -152,24 +153,25 @@ cleared work = replicate (length work) 0
 
 -- "Which record number carries which run, and the order of the free chain, is left open; the runs per column are not."
 -- What every strip has in common that a granted open, place or commit may leave.
-pub record Left (W R N words : ℕ) (runs : ℕ → List Rows) (s : List ℕ) : Type 0 where
+pub record Left (W R N g words : ℕ) (runs : ℕ → List Rows) (s : List ℕ) : Type 0 where
   pub well-formed : wellFormedb s ≡ true
   pub long : length s ≡ words
   pub width : widthOf s ≡ W
   pub resolution : resolutionOf s ≡ R
   pub columns : columnsOf s ≡ N
+  pub gap : gapOf s ≡ g
   pub holds : (k : ℕ) → k < N → runsOf s k ≡ runs k
 
 -- "Opening makes all columns empty."
-unfoldable pub OpenLeaves : ℕ → ℕ → ℕ → List ℕ → Opening → List ℕ → Type 0
-OpenLeaves W R N s Opened s' = Left W R N (length s) (λ k. []) s'
-OpenLeaves W R N s (NotOpened r) s' = s' ≡ s
+unfoldable pub OpenLeaves : ℕ → ℕ → ℕ → ℕ → List ℕ → Opening → List ℕ → Type 0
+OpenLeaves W R N g s Opened s' = Left W R N g (length s) (λ k. []) s'
+OpenLeaves W R N g s (NotOpened r) s' = s' ≡ s
 
 -- "the piece's cells are added, touching runs joined": the strip with the outline entered at p.
 abbrev pub EnteredLeaves : List ℕ → List ℕ → Position → List ℕ → Type 0
 EnteredLeaves s o p s' =
-    Left (widthOf s) (resolutionOf s) (columnsOf s) (length s)
-    (λ k. getD (entered (widthOf s) (resolutionOf s) (columnsRuns s) o p) k []) s'
+    Left (widthOf s) (resolutionOf s) (columnsOf s) (gapOf s) (length s)
+    (λ k. getD (entered (widthOf s) (resolutionOf s) (gapOf s) (columnsRuns s) o p) k []) s'
 
 -- "Strip and output keep their words at a refusal."
 unfoldable pub PlaceLeaves : List ℕ → List ℕ → Placing → List ℕ → Type 0
@@ -181,13 +183,13 @@ CommitLeaves s o p Committed s' = EnteredLeaves s o p s'
 CommitLeaves s o p (NotCommitted r) s' = s' ≡ s
 
 -- One strip among them, for a table that goes on from call to call.
-unfoldable pub openedStrip : ℕ → ℕ → ℕ → ℕ → List ℕ
-openedStrip W R N words = written W R N (recordsOf N words) (replicate N [])
+unfoldable pub openedStrip : ℕ → ℕ → ℕ → ℕ → ℕ → List ℕ
+openedStrip W R N g words = written W R N g (recordsOf N words) (replicate N [])
 
 unfoldable pub placedStrip : List ℕ → List ℕ → Placing → List ℕ
 placedStrip s o (Placed p) =
-    written (widthOf s) (resolutionOf s) (columnsOf s) (recordsOf (columnsOf s) (length s))
-    (entered (widthOf s) (resolutionOf s) (columnsRuns s) o p)
+    written (widthOf s) (resolutionOf s) (columnsOf s) (gapOf s) (recordsOf (columnsOf s) (length s))
+    (entered (widthOf s) (resolutionOf s) (gapOf s) (columnsRuns s) o p)
 placedStrip s o (NotPlaced r) = s
 
 pub record Lent : Type 0 where
@@ -201,19 +203,19 @@ placeAll s (c ∷ cs) =
     let a = placeAnswer s (c .outline) (c .mask) (c .words) in
     a ∷ placeAll (placedStrip s (c .outline) a) cs
 
--- The answers of a list of place calls on a strip opened with W, R, N and Q.
-unfoldable pub listAnswers : ℕ → ℕ → ℕ → ℕ → List Lent → List Placing
-listAnswers W R N Q cs = placeAll (openedStrip W R N (leadingWords + N + recordWords * Q)) cs
+-- The answers of a list of place calls on a strip opened with W, R, N, g and Q.
+unfoldable pub listAnswers : ℕ → ℕ → ℕ → ℕ → ℕ → List Lent → List Placing
+listAnswers W R N g Q cs = placeAll (openedStrip W R N g (leadingWords + N + recordWords * Q)) cs
 
 -- The contracts of the calls.
 
-pub record OpenStep (W R N : ℕ) (s : List ℕ) (a : Opening) (s' : List ℕ) : Type 0 where
-  pub answer : a ≡ openAnswer W R N (length s)
-  pub strip : OpenLeaves W R N s a s'
+pub record OpenStep (W R N g : ℕ) (s : List ℕ) (a : Opening) (s' : List ℕ) : Type 0 where
+  pub answer : a ≡ openAnswer W R N g (length s)
+  pub strip : OpenLeaves W R N g s a s'
 
-pub record CoverStep (o : List ℕ) (t R : ℕ) (out : List ℕ) (a : Covering) (out' : List ℕ) : Type 0 where
-  pub answer : a ≡ coverAnswer o t R (length out)
-  pub output : out' ≡ coverOutput o t R out a
+pub record CoverStep (o : List ℕ) (t R g : ℕ) (out : List ℕ) (a : Covering) (out' : List ℕ) : Type 0 where
+  pub answer : a ≡ coverAnswer o t R g (length out)
+  pub output : out' ≡ coverOutput o t R g out a
 
 -- S-2: "Place stays as ask and commit together", which is `Place-is-ask-and-commit` of claims/specs/Asking.
 pub record PlaceStep (s o : List ℕ) (mask : ℕ) (work : List ℕ) (a : Placing) (s' work' : List ℕ) : Type 0 where

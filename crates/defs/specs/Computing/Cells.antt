@@ -34,9 +34,18 @@ unfoldable pub opens : List ℕ → ℕ → ℕ → ℕ → Bool
 opens v k j i =
     spans (edgeAt v i) k && (eqb (notHigher v k i % 2) 1 && (reaches k j (edgeAt v i) && openAbove v k j i))
 
--- Cell (i, j) at resolution R of the outline v is covered, if no two edges of v change order.
-unfoldable pub coveredb : List ℕ → ℕ → ℕ → ℕ → Bool
-coveredb v R i j = anyTo (λ k. anyTo (opens v (i * R + k) j) (sides v)) R
+-- Row j of one of the n unit columns from a on holds a point inside of the outline v, if no two edges of v change order.
+unfoldable pub unitsb : List ℕ → ℕ → ℕ → ℕ → Bool
+unitsb v a n j = anyTo (λ k. anyTo (opens v (a + k) j) (sides v)) n
+
+-- row j, or one of the g rows below it, passes the test
+unfoldable pub raisedb : ℕ → (ℕ → Bool) → ℕ → Bool
+raisedb g f j = anyTo (λ b. leb b j && f (j - b)) (g + 1)
+
+-- Cell (i, j) at resolution R with gap g: a unit cell that holds a point inside lies in its columns or at most g to their left, and in
+-- its row or at most g below it.
+unfoldable pub coveredb : List ℕ → ℕ → ℕ → ℕ → ℕ → Bool
+coveredb v R g i j = raisedb g (unitsb v (i * R - g) ((i + 1) * R - (i * R - g))) j
 
 unfoldable pub keepsOrderb : List ℕ → ℕ → Bool
 keepsOrderb v w =
@@ -60,11 +69,11 @@ stretches f (suc n) rs = stretches f n (cond (f n) (joinRow n rs) rs)
 unfoldable pub inRows : List Rows → ℕ → Bool
 inRows rs j = any (λ (r : Rows). leb (r .low) j && ltb j (r .high)) rs
 
--- The runs of an outline in turn t, column by column.
-unfoldable pub pieceRuns : List ℕ → ℕ → ℕ → List (List Rows)
-pieceRuns o t R =
+-- The runs of an outline in turn t with gap g, column by column.
+unfoldable pub pieceRuns : List ℕ → ℕ → ℕ → ℕ → List (List Rows)
+pieceRuns o t R g =
     let v = turned o t in
-    listFrom (λ i. stretches (coveredb v R i) (extentY o t) []) 0 (columnsFor (extentX o t) R)
+    listFrom (λ i. stretches (coveredb v R g i) (extentY o t + g) []) 0 (columnsFor (extentX o t + g) R)
 
 unfoldable pub countRuns : List (List Rows) → ℕ
 countRuns [] = 0
@@ -77,8 +86,8 @@ unfoldable pub ordersb : List ℕ → ℕ → Bool
 ordersb o mask = allTo (λ t. not (allowedb mask t) || keepsOrderb (turned o t) (extentX o t)) 4
 
 -- the most runs of an allowed turn below n
-unfoldable pub mostRuns : List ℕ → ℕ → ℕ → ℕ → ℕ
-mostRuns o mask R zero = 0
-mostRuns o mask R (suc t) =
-    let here = countRuns (pieceRuns o t R) in
-    max (mostRuns o mask R t) (cond (allowedb mask t) here 0)
+unfoldable pub mostRuns : List ℕ → ℕ → ℕ → ℕ → ℕ → ℕ
+mostRuns o mask R g zero = 0
+mostRuns o mask R g (suc t) =
+    let here = countRuns (pieceRuns o t R g) in
+    max (mostRuns o mask R g t) (cond (allowedb mask t) here 0)

@@ -56,13 +56,14 @@ firstNo f k (x ∷ xs) =
     let n = f x in
     cond (eqb n 0) r (some (refusal n k))
 
--- the first of 1 to 3, 16, 17, 6 to 11 that gets "no"; 4 stands before 6 where a strip is lent
-unfoldable pub sheetNo : List ℕ → Bool → Option Refusal
-sheetNo b fourth =
+-- the first of 1 to 3, 16, 17, 6 to 11 that gets "no"; 21 and 4 stand before 6 where a gap is given and a strip lent
+unfoldable pub sheetNo : List ℕ → Bool → Bool → Option Refusal
+sheetNo b gap fourth =
     ask (q1b b) (some (refusal 1 0)) λ _.
     ask (q2b b) (some (refusal 2 0)) λ _.
     let no = limitsNo (sheetW b) (sheetR b) (sheetN b) in
     ask (eqb no 0) (some (refusal no 0)) λ _.
+    ask gap (some (refusal 21 0)) λ _.
     ask fourth (some (refusal 4 0)) λ _.
     ask (q6b b) (some (refusal 6 0)) λ _.
     firstNo (sheetPieceNo b) 1 (pieceRecords b)
@@ -77,7 +78,7 @@ figures b = record { width = sheetW b; resolution = sheetR b; columns = sheetN b
 
 unfoldable pub readAnswer : List ℕ → ℕ → Reading
 readAnswer b words =
-    elim (sheetNo b true) [
+    elim (sheetNo b true true) [
       | some r ↦ NotRead r
       | none ↦
           ask (leb (length (listWords (sheetPieces b))) words) (NotRead (refusal 15 0)) λ _.

@@ -60,10 +60,10 @@ programStrip b = leadingWords + sheetN b + recordWords * programRecords
 -- What is printed for this standard input. "a refused job only `job refused 10 2` (number, ordinal or 0)"
 unfoldable pub layText : List ℕ → List ℕ
 layText b =
-    elim (layAnswer b (programStrip b) (4 * mostPieces) programWork) [
+    elim (layAnswer b 0 (programStrip b) (4 * mostPieces) programWork) [
       | Laid t ↦
           line "strip" (sheetW b ∷ sheetR b ∷ sheetN b ∷ []) ++
-          (entryLines (layEntries b (programStrip b) programWork) ++
+          (entryLines (layEntries b 0 (programStrip b) programWork) ++
           (ascii "used" ++ (spaced (t .used ∷ []) ++ line " placed" (t .placed ∷ []))))
       | NotLaid r ↦ line "job refused" (r .number ∷ r .ordinal ∷ [])
     ]

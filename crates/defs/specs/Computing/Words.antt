@@ -4,8 +4,8 @@ use mathlib.Core.List.{List, [], _∷_, _++_}
 use Prim.Native.Nat.{ℕ, zero, suc, _+_, _*_, _-_, _/_}
 use lib.Dec.{ltb, leb, eqb}
 use lib.ListN.{length}
-use Rattle.defs.specs.Meaning.Limits.{mostWidth, mostResolution, mostColumns, mostRecords, leadingWords, recordWords}
-use Rattle.defs.specs.Meaning.Strip.{widthOf, resolutionOf, columnsOf, firstOf, columnOf, lowOf, highOf, nextOf}
+use Rattle.defs.specs.Meaning.Limits.{mostWidth, mostResolution, mostColumns, mostRecords, mostGap, leadingWords, recordWords}
+use Rattle.defs.specs.Meaning.Strip.{widthOf, resolutionOf, columnsOf, gapOf, firstOf, columnOf, lowOf, highOf, nextOf}
 use Rattle.defs.specs.Computing.Test.{ask, allTo, all, listFrom, chainBy, endsBy}
 use Rattle.defs.specs.Computing.Cells.{Rows, countRuns}
 
@@ -18,6 +18,9 @@ resolutionb R = leb 1 R && leb R mostResolution
 unfoldable pub columnsb : ℕ → Bool
 columnsb N = leb 1 N && leb N mostColumns
 
+unfoldable pub gapb : ℕ → Bool
+gapb g = leb g mostGap
+
 unfoldable pub limitsb : ℕ → ℕ → ℕ → Bool
 limitsb W R N = widthb W && (resolutionb R && columnsb N)
 
@@ -27,6 +30,14 @@ limitsNo W R N =
     ask (widthb W) 3 λ _.
     ask (resolutionb R) 16 λ _.
     ask (columnsb N) 17 λ _.
+    0
+
+-- the first of 3, 16, 17 and 21
+unfoldable pub figuresNo : ℕ → ℕ → ℕ → ℕ → ℕ
+figuresNo W R N g =
+    let no = limitsNo W R N in
+    ask (eqb no 0) no λ _.
+    ask (gapb g) 21 λ _.
     0
 
 -- Q of a strip of so many words
@@ -67,7 +78,7 @@ wellFormedb s =
     let columns = allTo (λ k. all (inColumnb s k) (chain s Q (firstOf s k))) N in
     let frees = all (isFreeb s) free in
     let once = allTo (λ r. eqb (occurrences (r + 1) every) 1) Q in
-    (lengthb N (length s) && limitsb (widthOf s) (resolutionOf s) N) && (ends && (columns && (frees && once)))
+    (lengthb N (length s) && (limitsb (widthOf s) (resolutionOf s) N && gapb (gapOf s))) && (ends && (columns && (frees && once)))
 
 unfoldable pub rowsOf : List ℕ → List ℕ → List Rows
 rowsOf s [] = []
@@ -98,7 +109,7 @@ unfoldable pub freeWords : ℕ → ℕ → ℕ → List ℕ
 freeWords N r zero = []
 freeWords N r (suc n) = N ∷ (0 ∷ (0 ∷ (cond (eqb n 0) 0 (r + 1) ∷ freeWords N (r + 1) n)))
 
-unfoldable pub written : ℕ → ℕ → ℕ → ℕ → List (List Rows) → List ℕ
-written W R N Q cs =
+unfoldable pub written : ℕ → ℕ → ℕ → ℕ → ℕ → List (List Rows) → List ℕ
+written W R N g Q cs =
     let n = countRuns cs in
-    W ∷ (R ∷ (N ∷ (cond (ltb n Q) (n + 1) 0 ∷ (heads 1 cs ++ (runWords 0 1 cs ++ freeWords N (n + 1) (Q - n))))))
+    W ∷ (R ∷ (N ∷ (cond (ltb n Q) (n + 1) 0 ∷ (g ∷ (heads 1 cs ++ (runWords 0 1 cs ++ freeWords N (n + 1) (Q - n)))))))

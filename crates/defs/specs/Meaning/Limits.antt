@@ -32,9 +32,13 @@ mostColumns = 4096
 abbrev pub mostRecords : ℕ
 mostRecords = 16000
 
--- "The strip is 4 + N + 4Q lent 16-bit words"
+-- S-4: "a gap g of 0 to 400 units"
+abbrev pub mostGap : ℕ
+mostGap = 400
+
+-- "The strip is 4 + N + 4Q lent 16-bit words", changed by S-4: the gap is "kept in a fifth leading word; records and heads move up by one".
 abbrev pub leadingWords : ℕ
-leadingWords = 4
+leadingWords = 5
 
 abbrev pub recordWords : ℕ
 recordWords = 4

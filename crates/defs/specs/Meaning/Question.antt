@@ -6,10 +6,10 @@ use mathlib.Core.List.{List}
 use Prim.Native.Nat.{ℕ, _+_, _*_, _/_, _%_, _≤_, _<_}
 use lib.ListN.{length, getD}
 use Rattle.defs.specs.declared.Position.{Position}
-use Rattle.defs.specs.Meaning.Limits.{Between, leastVertices, mostVertices, mostCoordinate, mostTurn, mostMask, mostWidth, mostResolution, mostColumns, mostPieces, mostBytes}
+use Rattle.defs.specs.Meaning.Limits.{Between, leastVertices, mostVertices, mostCoordinate, mostTurn, mostMask, mostWidth, mostResolution, mostColumns, mostGap, mostPieces, mostBytes}
 use Rattle.defs.specs.Meaning.Outline.{KeepsOrder}
 use Rattle.defs.specs.Meaning.Turn.{turned, Allows}
-use Rattle.defs.specs.Meaning.Cell.{Cells, AtMostRuns}
+use Rattle.defs.specs.Meaning.Cell.{Covered, Cells, AtMostRuns}
 use Rattle.defs.specs.Meaning.Strip.{Length, WellFormed}
 use Rattle.defs.specs.Meaning.Placing.{OnStrip, Free, Fits, cellsIn, cellsAt}
 use Rattle.defs.specs.Meaning.Sheet.{PieceChain, VertexChain}
@@ -29,6 +29,10 @@ Question16 R = Between 1 R mostResolution
 
 abbrev pub Question17 : ℕ → Type 0
 Question17 N = Between 1 N mostColumns
+
+-- S-4: "New numbers: 21 when g is over 400, directly after 16 and 17."
+abbrev pub Question21 : ℕ → Type 0
+Question21 g = g ≤ mostGap
 
 -- "4. At opening: is the strip's length right for N and some Q?"
 unfoldable pub Question4 : ℕ → ℕ → Type 0
@@ -75,30 +79,31 @@ Question9Turn t = t ≤ mostTurn
 unfoldable pub Question10 : List ℕ → ℕ → Type 0
 Question10 o mask = (t : ℕ) → Allows mask t → KeepsOrder (turned o t)
 
--- "11. Is a cell covered?"
+-- "11. Is a cell covered?" With a gap one is exactly when one is without.
 pub record Question11 (o : List ℕ) (mask R : ℕ) : Type 0 where
   pub turn : ℕ
   pub column : ℕ
   pub row : ℕ
   pub allowed : Allows mask turn
-  pub covered : cellsIn R o turn column row
+  pub covered : Covered (turned o turn) R column row
 
 -- "12. Has the buffer (cover's output, else the work buffer) three words for each run of the allowed turn that has most runs?"
-unfoldable pub Question12 : List ℕ → ℕ → ℕ → ℕ → Type 0
-Question12 o mask R words = (t : ℕ) → Allows mask t → AtMostRuns (cellsIn R o t) (words / 3)
+-- These are the runs that cover gives: none is left out past a strip's top or end.
+unfoldable pub Question12 : List ℕ → ℕ → ℕ → ℕ → ℕ → Type 0
+Question12 o mask R g words = (t : ℕ) → Allows mask t → AtMostRuns (cellsIn R g o t) (words / 3)
 
 -- "13. Is there a free position?"
-unfoldable pub Question13 : ℕ → ℕ → ℕ → Cells → List ℕ → ℕ → Type 0
-Question13 W R N Occupied o mask = (p : Position) × Fits W R N Occupied o mask p
+unfoldable pub Question13 : ℕ → ℕ → ℕ → ℕ → Cells → List ℕ → ℕ → Type 0
+Question13 W R N g Occupied o mask = (p : Position) × Fits W R N g Occupied o mask p
 
 -- S-2: "18 when a commit's position is off the strip or not free, asked instead of 13"
-pub record Question18 (W R N : ℕ) (Occupied : Cells) (o : List ℕ) (p : Position) : Type 0 where
+pub record Question18 (W R N g : ℕ) (Occupied : Cells) (o : List ℕ) (p : Position) : Type 0 where
   pub on-strip : OnStrip W R N o p
-  pub free : Free Occupied R o p
+  pub free : Free Occupied W R N g o p
 
 -- "14. Are the strip's runs after placing at most Q?"
-unfoldable pub Question14 : ℕ → ℕ → Cells → List ℕ → Position → Type 0
-Question14 R Q Occupied o p = AtMostRuns (λ i j. Occupied i j ⊎ cellsAt R o p i j) Q
+unfoldable pub Question14 : ℕ → ℕ → ℕ → ℕ → ℕ → Cells → List ℕ → Position → Type 0
+Question14 W R N g Q Occupied o p = AtMostRuns (λ i j. Occupied i j ⊎ cellsAt W R N g o p i j) Q
 
 -- "15. Does the output buffer hold the output?" Both in words, or both in bytes.
 abbrev pub Question15 : ℕ → ℕ → Type 0
@@ -106,15 +111,15 @@ Question15 output room = output ≤ room
 
 -- "cover 3, 7 to 12; place 5, 7 to 14", cover's 3 being 16 by S-1: 7 to 12 of one lent outline; where a turn is given, its mask is
 -- 2 ^ t.
-pub record Asked7to12 (o : List ℕ) (mask R words : ℕ) : Type 0 where
+pub record Asked7to12 (o : List ℕ) (mask R g words : ℕ) : Type 0 where
   pub q7 : Question7 o
   pub q8 : Question8 o
   pub q9 : Question9 mask
   pub q10 : Question10 o mask
   pub q11 : Question11 o mask R
-  pub q12 : Question12 o mask R words
+  pub q12 : Question12 o mask R g words
 
 -- what place and ask ask before 13, and, with its turn alone allowed, a commit before 18
-pub record AskedBefore13 (s o : List ℕ) (mask R words : ℕ) : Type 0 where
+pub record AskedBefore13 (s o : List ℕ) (mask R g words : ℕ) : Type 0 where
   pub q5 : Question5 s
-  pub q7to12 : Asked7to12 o mask R words
+  pub q7to12 : Asked7to12 o mask R g words

@@ -2,10 +2,10 @@
 use mathlib.Core.Path.{_≡_}
 use mathlib.Core.Bool.{cond}
 use mathlib.Core.List.{List}
-use Prim.Native.Nat.{ℕ, zero, _+_, _*_, _≤_, _<_}
+use Prim.Native.Nat.{ℕ, zero, _+_, _*_, _-_, _≤_, _<_}
 use lib.Dec.{ltb}
 use lib.ListN.{length, getD}
-use Rattle.defs.specs.Meaning.Limits.{Between, mostWidth, mostResolution, mostColumns, mostRecords, leadingWords, recordWords}
+use Rattle.defs.specs.Meaning.Limits.{Between, mostWidth, mostResolution, mostColumns, mostRecords, mostGap, leadingWords, recordWords}
 
 -- "Width W is 1 to 16,000 units, columns N 1 to 4,096" … "Resolution R is 1 to 400 units."
 pub record Limits (W R N : ℕ) : Type 0 where
@@ -18,7 +18,8 @@ pub record Length (N Q words : ℕ) : Type 0 where
   pub records : Between 1 Q mostRecords
   pub words-are : words ≡ leadingWords + N + recordWords * Q
 
--- "W, R, N, first free record; then each column's first record; then records 1 to Q of four words: column, low, high, next."
+-- "W, R, N, first free record;", by S-4 the gap, "then each column's first record; then records 1 to Q of four words: column, low, high,
+-- next."
 abbrev pub widthOf : List ℕ → ℕ
 widthOf s = getD s 0 0
 
@@ -28,13 +29,17 @@ resolutionOf s = getD s 1 0
 abbrev pub columnsOf : List ℕ → ℕ
 columnsOf s = getD s 2 0
 
+-- S-4: "A strip is opened with a gap g of 0 to 400 units, kept in a fifth leading word"
+abbrev pub gapOf : List ℕ → ℕ
+gapOf s = getD s 4 0
+
 -- The first record of column k's chain. The free records' chain goes by k = N.
 abbrev pub firstOf : List ℕ → ℕ → ℕ
 firstOf s k = cond (ltb k (columnsOf s)) (getD s (leadingWords + k) 0) (getD s 3 0)
 
--- Word i of record r: record 1 begins after 4 + N words, and record r at 4 + N + 4 (r − 1), which is 4 r + N.
+-- Word i of record r: record 1 begins after the leading words and N heads, and record r at 5 + N + 4 (r − 1), which is 4 r + N + (5 − 4).
 abbrev pub wordOf : List ℕ → ℕ → ℕ → ℕ
-wordOf s r i = getD s (recordWords * r + columnsOf s + i) 0
+wordOf s r i = getD s (recordWords * r + columnsOf s + (leadingWords - recordWords) + i) 0
 
 abbrev pub columnOf : List ℕ → ℕ → ℕ
 columnOf s r = wordOf s r 0
@@ -83,6 +88,7 @@ pub record InOneChain (s : List ℕ) (r : ℕ) : Type 0 where
 pub record WellFormed (s : List ℕ) (Q : ℕ) : Type 0 where
   pub long : Length (columnsOf s) Q (length s)
   pub limits : Limits (widthOf s) (resolutionOf s) (columnsOf s)
+  pub gap : gapOf s ≤ mostGap
   pub free : (r : ℕ) → Chained s r (firstOf s (columnsOf s)) → IsFree s r
   pub columns : (k r : ℕ) → k < columnsOf s → Chained s r (firstOf s k) → InColumn s k r
   pub ends : (k : ℕ) → k ≤ columnsOf s → Ends s Q (firstOf s k)

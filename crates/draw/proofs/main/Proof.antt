@@ -11,7 +11,7 @@ slice-aggregate-run : tie.Need-slice-aggregate-run
 slice-aggregate-run c = search needs
 
 slice-aggregate-run-2 : tie.Need-slice-aggregate-run-2
-slice-aggregate-run-2 c = sym (length-replicate {A = ℕ} 710000 0)
+slice-aggregate-run-2 c = sym (length-replicate {A = ℕ} 930000 0)
 
 run-requires : tie.Need-run-requires
 run-requires c κs = search needs

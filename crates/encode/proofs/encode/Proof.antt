@@ -20,8 +20,8 @@ cast-record-of-2 c = let r = sizes (c .before .before .before .before .before .b
 record-of-requires : tie.Need-record-of-requires
 record-of-requires c κs = search needs
 
-put-four-requires : tie.Need-put-four-requires
-put-four-requires c κs = let r = sizes (c .before .before .before .before .before .before .before .before .pre .1) in omega arith
+put-leading-requires : tie.Need-put-leading-requires
+put-leading-requires c κs = let r = sizes (c .before .before .before .before .before .before .before .before .pre .1) in omega arith
 
 put-firsts-requires : tie.Need-put-firsts-requires
 put-firsts-requires c κs =
@@ -54,9 +54,9 @@ returns : tie.Need-returns
 returns c =
     let p = c .before .before .before .before .before .before .before .before .before .before .before .before .before .before .before .before .before .before .before .before .before .before .before .pre in
     let a = c .before .before .before .before .before .before .before .before .before .before .before .before .before .before .before .before .before .before .before .before .before .before .before .args in
-    strip-written (p .0) (a .strip .now) (a .g .width) (a .g .resolution) (p .1)
+    strip-written (p .0) (a .strip .now) (a .g .width) (a .g .resolution) (a .gap) (p .1)
     (c .before .before .before .before .before .before .before .before .before .before .before .before .before .before .before .before .before .records-of .ensures) (c .before .before .before .before .before .before .before .before .before .before .before .before .before .before .before .before .record-of .ensures)
-    (c .before .before .before .before .before .before .before .before .before .before .before .before .before .before .put-four .ensures) (c .before .before .before .before .before .before .before .before .before .before .put-firsts .ensures)
+    (c .before .before .before .before .before .before .before .before .before .before .before .before .before .before .put-leading .ensures) (c .before .before .before .before .before .before .before .before .before .before .put-firsts .ensures)
     (c .before .before .before .before .before .before .put-records .ensures) (c .before .before .put-free .ensures)
 
 pub encode-spec : {M : Type 1} → statement M
@@ -68,7 +68,7 @@ encode-spec =
     cast-record-of
     cast-record-of-2
     record-of-requires
-    put-four-requires
+    put-leading-requires
     put-firsts-requires
     put-records-requires
     add-at

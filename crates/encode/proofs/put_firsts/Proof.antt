@@ -2,6 +2,7 @@
 use native.Mathlib.Omega.{arith}
 use Prim.Native.Nat.{_+_, _-_, _≤_}
 use borrow.Author.Needs.{needs}
+use Rattle.defs.specs.Meaning.Limits.{leadingWords}
 use Rattle.defs.specs.Computing.Test.{listFrom}
 use Rattle.freerecords.specs.Stored.{firstRecord, firstRecords}
 use Rattle.words.proofs.Storing.{Storing, storing-start, storing-one, storing-as, storing-end}
@@ -10,7 +11,7 @@ use Rattle.encode.proofs.put_firsts.Statement.{statement}
 use Rattle.encode.proofs.put_firsts.Tie as tie
 
 abbrev Inv-loop : tie.InvT-loop
-Inv-loop strip₀ first n k₀ strip k = (k ≤ n) × Storing strip₀ 4 (firstRecords first n) strip (4 + k) (listFrom (firstRecord first) k (n - k))
+Inv-loop strip₀ first n k₀ strip k = (k ≤ n) × Storing strip₀ leadingWords (firstRecords first n) strip (leadingWords + k) (listFrom (firstRecord first) k (n - k))
 
 abbrev μ-loop : tie.MeasureT-loop
 μ-loop strip₀ first n k₀ strip k = n - k
@@ -18,7 +19,7 @@ abbrev μ-loop : tie.MeasureT-loop
 loop-holds : tie.Need-loop-holds Inv-loop μ-loop
 loop-holds c =
     let a = c .before .before .args in
-    (omega arith, storing-as (firsts-start (a .first .now) (a .n)) (storing-start (a .strip .now) 4 (firstRecords (a .first .now) (a .n))))
+    (omega arith, storing-as (firsts-start (a .first .now) (a .n)) (storing-start (a .strip .now) leadingWords (firstRecords (a .first .now) (a .n))))
 
 mul-record-of : tie.Need-mul-record-of Inv-loop μ-loop
 mul-record-of c = search needs

@@ -20,14 +20,37 @@ decode-requires c κs = search needs
 enum-known-t : tie.Need-enum-known-t
 enum-known-t c = search needs
 
-slice-read-t18 : tie.Need-slice-read-t18
-slice-read-t18 c = omega (arith, leading (rw (c .before .before .t .given .1) at (c .before .before .before .before .before .before .before .decode .ensures)))
+slice-read-gap : tie.Need-slice-read-gap
+slice-read-gap c =
+    omega (
+      arith,
+      leading (rw (c .before .before .t .given .1) at
+          (c .before .before .before .before .before .before .before .decode .ensures)),
+    )
 
-slice-read-t20 : tie.Need-slice-read-t20
-slice-read-t20 c = omega (arith, leading (rw (c .before .before .before .t .given .1) at (c .before .before .before .before .before .before .before .before .decode .ensures)))
+slice-read-t21 : tie.Need-slice-read-t21
+slice-read-t21 c =
+    omega (
+      arith,
+      leading (rw (c .before .before .before .t .given .1) at
+          (c .before .before .before .before .before .before .before .before .decode .ensures)),
+    )
 
-slice-read-t22 : tie.Need-slice-read-t22
-slice-read-t22 c = omega (arith, leading (rw (c .before .before .before .before .t .given .1) at (c .before .before .before .before .before .before .before .before .before .decode .ensures)))
+slice-read-t23 : tie.Need-slice-read-t23
+slice-read-t23 c =
+    omega (
+      arith,
+      leading (rw (c .before .before .before .before .t .given .1) at
+          (c .before .before .before .before .before .before .before .before .before .decode .ensures)),
+    )
+
+slice-read-gap-2 : tie.Need-slice-read-gap-2
+slice-read-gap-2 c =
+    omega (
+      arith,
+      leading (rw (c .before .before .before .before .before .t .given .1) at
+          (c .before .before .before .before .before .before .before .before .before .before .decode .ensures)),
+    )
 
 slice-aggregate-encode : tie.Need-slice-aggregate-encode
 slice-aggregate-encode c = search needs
@@ -40,7 +63,9 @@ slice-aggregate-encode-3 c = search needs
 
 encode-requires : tie.Need-encode-requires
 encode-requires c κs =
-    let held = rw (c .before .before .before .before .before .before .before .before .t .given .1) at (c .before .before .before .before .before .before .before .before .before .before .before .before .before .decode .ensures) in
+    let held =
+    rw (c .before .before .before .before .before .before .before .before .before .t .given .1) at
+    (c .before .before .before .before .before .before .before .before .before .before .before .before .before .before .decode .ensures) in
     (held .flat, room held)
 
 enum-told : tie.Need-enum-told
@@ -50,7 +75,11 @@ same-length : tie.Need-same-length
 same-length c = search needs
 
 returns : tie.Need-returns
-returns c = rewritten-is (rw (c .before .before .before .before .before .before .before .before .before .before .before .t .given .1) at (c .before .before .before .before .before .before .before .before .before .before .before .before .before .before .before .before .decode .ensures)) (c .before .before .encode .ensures)
+returns c =
+    rewritten-is
+    (rw (c .before .before .before .before .before .before .before .before .before .before .before .before .t .given .1) at
+    (c .before .before .before .before .before .before .before .before .before .before .before .before .before .before .before .before .before .decode .ensures))
+    (c .before .before .encode .ensures)
 
 same-length-2 : tie.Need-same-length-2
 same-length-2 c = search needs
@@ -67,9 +96,10 @@ vikelodu-rewrite-spec =
     slice-aggregate-decode-3
     decode-requires
     enum-known-t
-    slice-read-t18
-    slice-read-t20
-    slice-read-t22
+    slice-read-gap
+    slice-read-t21
+    slice-read-t23
+    slice-read-gap-2
     slice-aggregate-encode
     slice-aggregate-encode-2
     slice-aggregate-encode-3

@@ -1,4 +1,4 @@
--- Length and limits, by the tests of questions 3, 16, 17 and 4. Assumes nothing.
+-- Length and limits, by the tests of questions 3, 16, 17, 21 and 4. Assumes nothing.
 use mathlib.Core.Path.{sym, _∙_}
 use native.Mathlib.Omega.{arith}
 use borrow.Author.Tests.{not-true, not-false}
@@ -13,17 +13,20 @@ returns c = short _ (c .if1 .taken)
 shared-slice-read-n : tie.Need-shared-slice-read-n
 shared-slice-read-n c = search needs
 
-shared-slice-read-limits-no : tie.Need-shared-slice-read-limits-no
-shared-slice-read-limits-no c = search needs
+shared-slice-read-figures-no : tie.Need-shared-slice-read-figures-no
+shared-slice-read-figures-no c = search needs
 
-shared-slice-read-limits-no-2 : tie.Need-shared-slice-read-limits-no-2
-shared-slice-read-limits-no-2 c = search needs
+shared-slice-read-figures-no-2 : tie.Need-shared-slice-read-figures-no-2
+shared-slice-read-figures-no-2 c = search needs
 
-limits-no-requires : tie.Need-limits-no-requires
-limits-no-requires c κs = search needs
+shared-slice-read-figures-no-3 : tie.Need-shared-slice-read-figures-no-3
+shared-slice-read-figures-no-3 c = search needs
+
+figures-no-requires : tie.Need-figures-no-requires
+figures-no-requires c κs = search needs
 
 returns-2 : tie.Need-returns-2
-returns-2 c = past-limits _ (λ e. omega (arith, c .before .limits-no .ensures, c .if2 .taken, e))
+returns-2 c = past-limits _ (λ e. omega (arith, c .before .figures-no .ensures, c .if2 .taken, e))
 
 length-fits-requires : tie.Need-length-fits-requires
 length-fits-requires c κs = search needs
@@ -43,7 +46,7 @@ records-of-requires c κs = search needs
 returns-4 : tie.Need-returns-4
 returns-4 c =
     let b = not-false _ (c .before .before .before .if3 .left) in
-    sized _ (sym (c .before .before .before .before .before .before .limits-no .ensures) ∙ c .before .before .before .before .before .if2 .left)
+    sized _ (sym (c .before .before .before .before .before .before .figures-no .ensures) ∙ c .before .before .before .before .before .if2 .left)
     (sym (c .before .before .before .before .length-fits .ensures) ∙ b) (c .before .before .word .ensures .0)
     (c .before .word2 .ensures .0) (c .records-of .ensures)
 
@@ -53,9 +56,10 @@ measure-spec =
     (tie.spec
     returns
     shared-slice-read-n
-    shared-slice-read-limits-no
-    shared-slice-read-limits-no-2
-    limits-no-requires
+    shared-slice-read-figures-no
+    shared-slice-read-figures-no-2
+    shared-slice-read-figures-no-3
+    figures-no-requires
     returns-2
     length-fits-requires
     returns-3

@@ -7,10 +7,10 @@ use Rattle.frame.proofs.put_refusals.Statement.{statement}
 use Rattle.frame.proofs.put_refusals.Tie as tie
 
 abbrev Inv-loop : tie.InvT-loop
-Inv-loop out₀ at count entries n i₀ k₀ to₀ out i k to = (length out ≡ length out₀) × (i ≤ count) × (k ≤ i) × (1 ≤ n)
+Inv-loop out₀ at s count entries n i₀ k₀ to₀ out i k to = (length out ≡ length out₀) × (i ≤ count) × (k ≤ i) × (1 ≤ n)
 
 abbrev μ-loop : tie.MeasureT-loop
-μ-loop out₀ at count entries n i₀ k₀ to₀ out i k to = count - i
+μ-loop out₀ at s count entries n i₀ k₀ to₀ out i k to = count - i
 
 in-row-requires : tie.Need-in-row-requires Inv-loop μ-loop
 in-row-requires c κs = search needs

@@ -1,80 +1,92 @@
 -- `round_column` meets its contract: no height below the one that is tried is free, and all runs are free there but those that are left. Each
--- try leaves a run less or goes up, so the tries come to an end.
+-- try leaves a run less or goes up, so the tries come to an end. Runs past the last column count for nothing.
 -- Assumes nothing.
 use borrow.Author.Needs.{needs}
 use native.Mathlib.Omega.{arith}
 use Prim.Native.Nat.{_+_, _-_, _*_}
+use Rattle.walk.proofs.Jumps.{least-all, none-all}
 use Rattle.heights.proofs.Goings.{Going, going-start, run-left, going-end, going-stop, going-next, asks, falls}
 use Rattle.heights.proofs.round_column.Statement.{statement}
 use Rattle.heights.proofs.round_column.Tie as tie
 
 abbrev Inv-loop : tie.InvT-loop
-Inv-loop first lows highs runs c start top p y₀ k₀ left₀ y k left = Going first lows highs runs p c top y k left
+Inv-loop first lows highs runs c start top n p y₀ k₀ left₀ y k left = Going first lows highs runs n p c top y k left
 
 abbrev μ-loop : tie.MeasureT-loop
-μ-loop first lows highs runs c start top p y₀ k₀ left₀ y k left = (top - y) * p + left
+μ-loop first lows highs runs c start top n p y₀ k₀ left₀ y k left = (top - y) * p + left
 
 sub-top : tie.Need-sub-top Inv-loop μ-loop
 sub-top c = search needs
 
+sub-runs-before : tie.Need-sub-runs-before Inv-loop μ-loop
+sub-runs-before c = omega (arith, c .before .before .before .before .before .pre .1)
+
+runs-before-requires : tie.Need-runs-before-requires Inv-loop μ-loop
+runs-before-requires c κs = record { reach = _; rows = _; piece = c .before .before .before .before .before .pre .0 .piece }
+
+begin-with-requires : tie.Need-begin-with-requires Inv-loop μ-loop
+begin-with-requires c κs = search needs
+
 loop-holds : tie.Need-loop-holds Inv-loop μ-loop
-loop-holds c = going-start (omega arith)
+loop-holds c = going-start (c .begin-with .ensures)
 
 mul-col : tie.Need-mul-col Inv-loop μ-loop
-mul-col c = search needs
+mul-col c = omega (arith, c .before .before .before .runs-before .ensures .few, run-left (c .before .loop .inv) (omega arith), c .before .before .before .before .before .before .before .before .before .pre .0 .piece .long, c .before .before .before .before .before .before .before .before .before .good)
 
 mul-col-2 : tie.Need-mul-col-2 Inv-loop μ-loop
-mul-col-2 c = search needs
+mul-col-2 c = omega (arith, c .before .before .before .runs-before .ensures .few, run-left (c .before .loop .inv) (omega arith), c .before .before .before .before .before .before .before .before .before .pre .0 .piece .long, c .before .before .before .before .before .before .before .before .before .good)
 
 shared-slice-read-col : tie.Need-shared-slice-read-col Inv-loop μ-loop
-shared-slice-read-col c = search needs
+shared-slice-read-col c = omega (arith, c .before .before .before .before .runs-before .ensures .few, run-left (c .before .before .loop .inv) (omega arith), c .before .before .before .before .before .before .before .before .before .before .pre .0 .piece .long)
 
 cast-col : tie.Need-cast-col Inv-loop μ-loop
 cast-col c = omega (arith, c .shared-slice-known5 .given (3 * c .before .before .loop .k))
 
 add-col : tie.Need-add-col Inv-loop μ-loop
-add-col c =
-    let pre = c .before .before .before .before .before .before .before .before .pre in
-    let k = c .before .before .loop .k in
-    let g = c .before .before .loop .inv in
-    omega (arith, pre .0 .piece .wide k (run-left g (omega arith)), pre .1)
+add-col c = omega (arith, c .before .before .before .before .runs-before .ensures .inside (c .before .before .loop .k) (run-left (c .before .before .loop .inv) (omega arith)), c .before .before .before .before .before .before .before .before .before .before .pre .1)
 
 mul-settle : tie.Need-mul-settle Inv-loop μ-loop
-mul-settle c = search needs
+mul-settle c = omega (arith, c .before .before .before .before .runs-before .ensures .few, run-left (c .before .before .loop .inv) (omega arith), c .before .before .before .before .before .before .before .before .before .before .pre .0 .piece .long, c .before .before .before .before .before .before .before .before .before .before .good)
 
 add-settle : tie.Need-add-settle Inv-loop μ-loop
-add-settle c = search needs
+add-settle c = omega (arith, c .before .before .before .before .runs-before .ensures .few, run-left (c .before .before .loop .inv) (omega arith), c .before .before .before .before .before .before .before .before .before .before .pre .0 .piece .long, c .before .before .before .before .before .before .before .before .before .before .good)
 
 mul-settle-2 : tie.Need-mul-settle-2 Inv-loop μ-loop
-mul-settle-2 c = search needs
+mul-settle-2 c = omega (arith, c .before .before .before .before .runs-before .ensures .few, run-left (c .before .before .loop .inv) (omega arith), c .before .before .before .before .before .before .before .before .before .before .pre .0 .piece .long, c .before .before .before .before .before .before .before .before .before .before .good)
 
 shared-slice-read-settle : tie.Need-shared-slice-read-settle Inv-loop μ-loop
-shared-slice-read-settle c = search needs
+shared-slice-read-settle c = omega (arith, c .before .before .before .before .before .runs-before .ensures .few, run-left (c .before .before .before .loop .inv) (omega arith), c .before .before .before .before .before .before .before .before .before .before .before .pre .0 .piece .long)
 
 mul-settle-3 : tie.Need-mul-settle-3 Inv-loop μ-loop
-mul-settle-3 c = search needs
+mul-settle-3 c = omega (arith, c .before .before .before .before .before .runs-before .ensures .few, run-left (c .before .before .before .loop .inv) (omega arith), c .before .before .before .before .before .before .before .before .before .before .before .pre .0 .piece .long, c .before .before .before .before .before .before .before .before .before .before .before .good)
 
 add-settle-2 : tie.Need-add-settle-2 Inv-loop μ-loop
-add-settle-2 c = search needs
+add-settle-2 c = omega (arith, c .before .before .before .before .before .runs-before .ensures .few, run-left (c .before .before .before .loop .inv) (omega arith), c .before .before .before .before .before .before .before .before .before .before .before .pre .0 .piece .long, c .before .before .before .before .before .before .before .before .before .before .before .good)
 
 mul-settle-4 : tie.Need-mul-settle-4 Inv-loop μ-loop
-mul-settle-4 c = search needs
+mul-settle-4 c = omega (arith, c .before .before .before .before .before .runs-before .ensures .few, run-left (c .before .before .before .loop .inv) (omega arith), c .before .before .before .before .before .before .before .before .before .before .before .pre .0 .piece .long, c .before .before .before .before .before .before .before .before .before .before .before .good)
 
 shared-slice-read-settle-2 : tie.Need-shared-slice-read-settle-2 Inv-loop μ-loop
-shared-slice-read-settle-2 c = search needs
+shared-slice-read-settle-2 c = omega (arith, c .before .before .before .before .before .before .runs-before .ensures .few, run-left (c .before .before .before .before .loop .inv) (omega arith), c .before .before .before .before .before .before .before .before .before .before .before .before .pre .0 .piece .long)
 
 settle-requires : tie.Need-settle-requires Inv-loop μ-loop
 settle-requires c κs =
-    let pre = c .before .before .before .before .before .before .before .before .before .before .pre in
+    let pre = c .before .before .before .before .before .before .before .before .before .before .before .before .pre in
     let g = c .before .before .before .before .loop .inv in
-    asks (pre .0) g (pre .1 .0) (run-left g (omega arith)) (omega arith) (pre .1 .2)
+    asks (pre .0) (c .before .before .before .before .before .before .runs-before .ensures) g (omega (arith, pre .1)) (run-left g (omega arith)) (omega arith) (pre .1 .2)
 
 returns : tie.Need-returns Inv-loop μ-loop
 returns c =
-    let pre = c .before .before .before .before .before .before .before .before .before .before .before .before .pre in
+    let pre = c .before .before .before .before .before .before .before .before .before .before .before .before .before .before .pre in
     let g = c .before .before .before .before .before .before .loop .inv in
+    let b = c .before .before .before .before .before .before .before .before .runs-before .ensures in
     let among = run-left g (omega arith) in
-    record { none = going-stop (pre .0) (pre .1 .0) among g (c .before .settle .ensures) (omega arith) (omega arith); among = among }
+    record {
+      none =
+          none-all (omega (arith, pre .1)) b
+          (going-stop (pre .0) (omega (arith, pre .1)) b among g (c .before .settle .ensures) (omega arith) (omega arith));
+      among = omega (arith, b .few);
+    }
 
 runs-left-requires : tie.Need-runs-left-requires Inv-loop μ-loop
 runs-left-requires c κs = (omega arith, c .before .before .before .before .before .before .loop .inv .few)
@@ -91,13 +103,13 @@ loop-less c =
 
 loop-again : tie.Need-loop-again Inv-loop μ-loop
 loop-again c =
-    let pre = c .before .before .before .before .before .before .before .before .before .before .before .before .before .before .pre in
+    let pre = c .before .before .before .before .before .before .before .before .before .before .before .before .before .before .before .before .pre in
     let g = c .before .before .before .before .before .before .before .before .loop .inv in
-    going-next (pre .0) (pre .1 .0) (run-left g (omega arith)) g (c .before .before .before .settle .ensures) (omega arith) (omega arith) (c .before .runs-left .ensures)
-    (c .next-run .ensures)
+    going-next (pre .0) (omega (arith, pre .1)) (c .before .before .before .before .before .before .before .before .before .before .runs-before .ensures) (run-left g (omega arith)) g (c .before .before .before .settle .ensures) (omega arith)
+    (omega arith) (c .before .runs-left .ensures) (c .next-run .ensures)
 
 returns-2 : tie.Need-returns-2 Inv-loop μ-loop
-returns-2 c = going-end (c .before .loop .inv) (omega arith) (omega arith)
+returns-2 c = least-all (omega (arith, c .before .before .before .before .before .before .before .before .before .pre .1)) (c .before .before .before .runs-before .ensures) (going-end (c .before .loop .inv) (omega arith) (omega arith))
 
 pub round-column-spec : {M : Type 1} → statement M
 round-column-spec =
@@ -106,6 +118,9 @@ round-column-spec =
     Inv-loop
     μ-loop
     sub-top
+    sub-runs-before
+    runs-before-requires
+    begin-with-requires
     loop-holds
     mul-col
     mul-col-2

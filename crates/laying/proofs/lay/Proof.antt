@@ -20,7 +20,7 @@ same-length-3 : tie.Need-same-length-3
 same-length-3 c = search needs
 
 returns : tie.Need-returns
-returns c = lay-step (c .before .before .before .before .before .before .before .before .before .before .lay-sheet .last .1 .1 .1 .0) (c .before .before .before .before .before .before .before .before .before .before .lay-sheet .ensures) (search needs) (c .before .before .clear .ensures)
+returns c = lay-step (c .before .before .before .before .before .before .before .before .before .before .lay-sheet .last .1 .1 .1 .1 .0) (c .before .before .before .before .before .before .before .before .before .before .lay-sheet .ensures) (search needs) (c .before .before .clear .ensures)
 
 pub lay-spec : {M : Type 1} → statement M
 lay-spec =

@@ -13,10 +13,10 @@ refused-requires : tie.Need-refused-requires
 refused-requires c κs = search needs
 
 returns : tie.Need-returns
-returns c = lay-15 (c .before .before .before .before .before .before .args .strip .now) (c .before .before .before .before .before .before .pre) (c .before .if1 .taken) (c .refused .ensures)
+returns c = lay-15 _ (c .before .before .before .before .before .before .args .strip .now) (c .before .before .before .before .before .before .pre) (c .before .if1 .taken) (c .refused .ensures)
 
 lay-tables-requires : tie.Need-lay-tables-requires
-lay-tables-requires c κs = job-passed (c .before .before .before .before .before .before .before .before .args .strip .now) (c .before .before .before .before .before .before .before .before .pre) (c .before .before .before .if1 .left)
+lay-tables-requires c κs = job-passed _ (c .before .before .before .before .before .before .before .before .args .strip .now) (c .before .before .before .before .before .before .before .before .pre) (c .before .before .before .if1 .left)
 
 same-length : tie.Need-same-length
 same-length c = search needs
@@ -28,7 +28,7 @@ same-length-3 : tie.Need-same-length-3
 same-length-3 c = search needs
 
 returns-2 : tie.Need-returns-2
-returns-2 c = lay-laid (c .before .before .before .before .before .before .before .before .before .before .before .before .before .before .before .args .strip .now) (c .before .before .before .before .before .before .before .before .before .before .before .before .before .before .before .pre) (c .before .before .before .before .before .before .before .before .before .before .if1 .left) (c .before .before .before .before .before .before .lay-tables .ensures)
+returns-2 c = lay-laid _ (c .before .before .before .before .before .before .before .before .before .before .before .before .before .before .before .args .strip .now) (c .before .before .before .before .before .before .before .before .before .before .before .before .before .before .before .pre) (c .before .before .before .before .before .before .before .before .before .before .if1 .left) (c .before .before .before .before .before .before .lay-tables .ensures)
 
 pub lay-asked-spec : {M : Type 1} → statement M
 lay-asked-spec =

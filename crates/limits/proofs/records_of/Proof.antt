@@ -7,9 +7,9 @@ use Rattle.defs.specs.Computing.Words.{recordsOf}
 use Rattle.limits.proofs.records_of.Statement.{statement}
 use Rattle.limits.proofs.records_of.Tie as tie
 
-none : (n words : ℕ) → words < 4 + n → 0 ≡ recordsOf n words
+none : (n words : ℕ) → words < 5 + n → 0 ≡ recordsOf n words
 unfolding recordsOf
-none n words h = let e : words - (4 + n) ≡ 0 = omega arith in rw e refl
+none n words h = let e : words - (5 + n) ≡ 0 = omega arith in rw e refl
 
 add-front : tie.Need-add-front
 add-front c = search needs

@@ -24,7 +24,7 @@ same-length : tie.Need-same-length
 same-length c = search needs
 
 returns : tie.Need-returns
-returns c = c .before .before .encode .ensures ∙ opened-is 4097 _ _ _ _ _ _
+returns c = c .before .before .encode .ensures ∙ opened-is 4097 _ _ _ _ _ _ _
 
 pub put-empty-spec : {M : Type 1} → statement M
 put-empty-spec =

@@ -15,14 +15,14 @@ refused-requires : tie.Need-refused-requires
 refused-requires c κs = search needs
 
 returns : tie.Need-returns
-returns c = refused-on (c .refused .ensures) (to-ten _ _ _ _ _ _ _ _ (c .before .before .before .before .before .before .before .before .before .before .before .before .pre .limits .resolution .at-least) (refused-to-ten _ _ (c .before .before .before .nine .ensures) (c .before .before .order-no .ensures) (c .before .if1 .taken)) (c .before .if1 .taken))
+returns c = refused-on (c .refused .ensures) (to-ten _ _ _ _ _ _ _ _ _ (c .before .before .before .before .before .before .before .before .before .before .before .before .pre .limits .resolution .at-least) (refused-to-ten _ _ (c .before .before .before .nine .ensures) (c .before .before .order-no .ensures) (c .before .if1 .taken)) (c .before .if1 .taken))
 
 place-asked-requires : tie.Need-place-asked-requires
 place-asked-requires c κs = (
   c .before .before .before .before .before .before .before .before .before .before .before .before .before .before .before .pre,
   (
     passed _ _ (c .before .before .before .before .before .before .nine .ensures) (c .before .before .before .before .before .order-no .ensures) (c .before .before .before .before .if1 .left),
-    none-before-0 _ _ _ _ _ _,
+    none-before-0 _ _ _ _ _ _ _,
   ),
 )
 

@@ -6,13 +6,13 @@ use Rattle.position.proofs.enter_at.Tie as tie
 
 stand-runs-requires : tie.Need-stand-runs-requires
 stand-runs-requires c κs = let at = c .before .before .before .before .before .before .before .before .before .pre .1 .0 in let r = c .before .before .before .before .before .before .before .before .before .pre .0 .limits .resolution in
-    (at .lent, (at .bounds, ((at .turn, at .room), (at .keeps, (record { least = r .at-least; most = r .at-most }, c .before .before .before .before .before .before .before .before .before .pre .1 .1)))))
-
-cast-t19 : tie.Need-cast-t19
-cast-t19 c = search needs
+    (at .lent, (at .bounds, ((at .turn, at .room), (at .keeps, (record { least = r .at-least; most = r .at-most }, c .before .before .before .before .before .before .before .before .before .pre .0 .gap, c .before .before .before .before .before .before .before .before .before .pre .1 .1)))))
 
 cast-t20 : tie.Need-cast-t20
 cast-t20 c = search needs
+
+cast-t21 : tie.Need-cast-t21
+cast-t21 c = search needs
 
 enter-requires : tie.Need-enter-requires
 enter-requires c κs =
@@ -64,8 +64,8 @@ enter-at-spec =
     tie.close
     (tie.spec
     stand-runs-requires
-    cast-t19
     cast-t20
+    cast-t21
     enter-requires
     enum-known-t
     enum-told

@@ -5,13 +5,17 @@ use Rattle.position.proofs.stand_runs.Statement.{statement}
 use Rattle.position.proofs.stand_runs.Tie as tie
 
 returns : tie.Need-returns
-returns c = kept-stand (c .before .before .before .before .pre .1 .1 .1 .1 .1) (c .if1 .taken) (c .before .before .before .before .pre .1 .1 .0 .0) (c .before .before .before .before .pre .1 .1 .0 .1)
+returns c = kept-stand (c .before .before .before .before .pre .1 .1 .1 .1 .2) (c .if1 .taken) (c .before .before .before .before .pre .1 .1 .0 .0) (c .before .before .before .before .pre .1 .1 .0 .1)
 
 extent-of-requires : tie.Need-extent-of-requires
 extent-of-requires c κs = search needs
 
 put-runs-requires : tie.Need-put-runs-requires
-put-runs-requires c κs = search needs
+put-runs-requires c κs =
+    let pre = c .before .before .before .before .before .before .pre in (
+      pre .0,
+      (pre .1 .0, ((pre .1 .1 .0 .0, c .before .extent-of .ensures .0), (pre .1 .1 .1 .0, (pre .1 .1 .1 .1 .0, pre .1 .1 .1 .1 .1)))),
+    )
 
 same-length : tie.Need-same-length
 same-length c = search needs

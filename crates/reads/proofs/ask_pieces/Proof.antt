@@ -22,7 +22,7 @@ enum-known-number : tie.Need-enum-known-number
 enum-known-number c = search needs
 
 returns : tie.Need-returns
-returns c = record { passed = record { counted = c .before .before .before .before .before .pre; none-no = rw (c .enum-told .given .1) at (c .before .before .first-no .ensures) }; four = refl }
+returns c = record { passed = record { counted = c .before .before .before .before .before .pre; none-no = rw (c .enum-told .given .1) at (c .before .before .first-no .ensures) }; gap-fits = refl; four = refl }
 
 returns-2 : tie.Need-returns-2
 returns-2 c = no-piece (c .before .before .before .before .before .before .pre) (rw (c .before .number2 .given .1) at (c .before .before .before .first-no .ensures))

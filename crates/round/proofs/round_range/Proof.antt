@@ -8,7 +8,7 @@ use Rattle.round.proofs.round_range.Statement.{statement}
 use Rattle.round.proofs.round_range.Tie as tie
 
 abbrev Inv-loop : tie.InvT-loop
-Inv-loop first lows highs runs s from to end c₀ k₀ c k = FullTo first lows highs runs (s .width) (s .runs) (s .tall) from c × (k ≤ s .runs - 1)
+Inv-loop first lows highs runs s from to end c₀ k₀ c k = FullTo first lows highs runs (s .columns) (s .width) (s .runs) (s .tall) from c × (k ≤ s .runs - 1)
 
 abbrev μ-loop : tie.MeasureT-loop
 μ-loop first lows highs runs s from to end c₀ k₀ c k = end - c
@@ -20,7 +20,7 @@ range-end-requires : tie.Need-range-end-requires Inv-loop μ-loop
 range-end-requires c κs = search needs
 
 loop-holds : tie.Need-loop-holds Inv-loop μ-loop
-loop-holds c = (full-none _ _ _ _ _ _ _ _, omega arith)
+loop-holds c = (full-none _ _ _ _ _ _ _ _ _, omega arith)
 
 round-column-requires : tie.Need-round-column-requires Inv-loop μ-loop
 round-column-requires c κs =

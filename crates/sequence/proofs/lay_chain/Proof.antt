@@ -14,15 +14,15 @@ use Rattle.sequence.proofs.lay_chain.Statement.{statement}
 use Rattle.sequence.proofs.lay_chain.Tie as tie
 
 abbrev Inv-loop : tie.InvT-loop
-Inv-loop sheet v g q first₀ lows₀ highs₀ first2₀ lows2₀ highs2₀ out₀ work₀ at₀ last₀ left₀ t₀ first lows highs first2 lows2 highs2 out work at last left t =
-    Going sheet v (g .width) (g .resolution) (g .columns) q (length work₀)
-    (wholeFrom out₀ (g .width) (g .resolution) (g .columns) q (length work₀) 1 (tableOf first₀ lows₀ highs₀ (g .columns)) (sheetPieces sheet) 0 0) at last left t first lows highs
+Inv-loop sheet v g gap q first₀ lows₀ highs₀ first2₀ lows2₀ highs2₀ out₀ work₀ at₀ last₀ left₀ t₀ first lows highs first2 lows2 highs2 out work at last left t =
+    Going sheet v (g .width) (g .resolution) (g .columns) gap q (length work₀)
+    (wholeFrom out₀ (g .width) (g .resolution) (g .columns) gap q (length work₀) 1 (tableOf first₀ lows₀ highs₀ (g .columns)) (sheetPieces sheet) 0 0) at last left t first lows highs
     first2 lows2 highs2 out (length out₀) ×
     (at < 65536) × (length first ≡ length first₀) × (length lows ≡ length lows₀) × (length highs ≡ length highs₀) × (length first2 ≡ length first2₀) ×
     (length lows2 ≡ length lows2₀) × (length highs2 ≡ length highs2₀) × (length work ≡ length work₀)
 
 abbrev μ-loop : tie.MeasureT-loop
-μ-loop sheet v g q first₀ lows₀ highs₀ first2₀ lows2₀ highs2₀ out₀ work₀ at₀ last₀ left₀ t₀ first lows highs first2 lows2 highs2 out work at last left t =
+μ-loop sheet v g gap q first₀ lows₀ highs₀ first2₀ lows2₀ highs2₀ out₀ work₀ at₀ last₀ left₀ t₀ first lows highs first2 lows2 highs2 out work at last left t =
     left
 
 number-requires : tie.Need-number-requires Inv-loop μ-loop

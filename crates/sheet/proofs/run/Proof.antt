@@ -5,95 +5,75 @@ use borrow.Author.Needs.{needs}
 use Rattle.sheet.proofs.run.Statement.{statement}
 use Rattle.sheet.proofs.run.Tie as tie
 
--- src/main.rt:14:9
 read-full-requires : tie.Need-read-full-requires
 read-full-requires c κs = search needs
 
--- src/main.rt:15:27
 slice-reshare-prefix-sheet-of : tie.Need-slice-reshare-prefix-sheet-of
 slice-reshare-prefix-sheet-of c = search needs
 
--- src/main.rt:15:27
 slice-aggregate-sheet-of : tie.Need-slice-aggregate-sheet-of
 slice-aggregate-sheet-of c = search needs
 
--- src/main.rt:15:11
 sheet-of-requires : tie.Need-sheet-of-requires
 sheet-of-requires c κs = search needs
 
--- src/main.rt:16:21
 enum-known-r : tie.Need-enum-known-r
 enum-known-r c = search needs
 
--- src/main.rt:17:42
+write-gap-requires : tie.Need-write-gap-requires
+write-gap-requires c κs = search needs
+
 slice-reshare-prefix-write-all : tie.Need-slice-reshare-prefix-write-all
-slice-reshare-prefix-write-all c = (rw (c .before .r .given .1) at (c .before .before .before .before .before .before .before .sheet-of .ensures)) .0
+slice-reshare-prefix-write-all c = (rw (c .before .before .r .given .1) at (c .before .before .before .before .before .before .before .before .sheet-of .ensures)) .0
 
--- src/main.rt:17:42
 slice-aggregate-write-all : tie.Need-slice-aggregate-write-all
-slice-aggregate-write-all c = sym (length-take-le _ _ ((rw (c .before .before .r .given .1) at (c .before .before .before .before .before .before .before .before .sheet-of .ensures)) .0))
+slice-aggregate-write-all c = sym (length-take-le _ _ ((rw (c .before .before .before .r .given .1) at (c .before .before .before .before .before .before .before .before .before .sheet-of .ensures)) .0))
 
--- src/main.rt:17:13
 write-all-requires : tie.Need-write-all-requires
 write-all-requires c κs = search needs
 
--- src/main.rt:18:42
 slice-reshare-prefix-write-all-2 : tie.Need-slice-reshare-prefix-write-all-2
-slice-reshare-prefix-write-all-2 c = (rw (c .before .before .before .r .given .1) at (c .before .before .before .before .before .before .before .before .before .sheet-of .ensures)) .1
+slice-reshare-prefix-write-all-2 c = (rw (c .before .before .before .before .r .given .1) at (c .before .before .before .before .before .before .before .before .before .before .sheet-of .ensures)) .1
 
--- src/main.rt:18:42
 slice-aggregate-write-all-2 : tie.Need-slice-aggregate-write-all-2
-slice-aggregate-write-all-2 c = sym (length-take-le _ _ ((rw (c .before .before .before .before .r .given .1) at (c .before .before .before .before .before .before .before .before .before .before .sheet-of .ensures)) .1))
+slice-aggregate-write-all-2 c = sym (length-take-le _ _ ((rw (c .before .before .before .before .before .r .given .1) at (c .before .before .before .before .before .before .before .before .before .before .before .sheet-of .ensures)) .1))
 
--- src/main.rt:18:13
 write-all-requires-2 : tie.Need-write-all-requires-2
 write-all-requires-2 c κs = search needs
 
--- src/main.rt:20:23
 enum-known-r-2 : tie.Need-enum-known-r-2
 enum-known-r-2 c = search needs
 
--- src/main.rt:21:42
 slice-reshare-prefix-write-all-3 : tie.Need-slice-reshare-prefix-write-all-3
 slice-reshare-prefix-write-all-3 c = rw (c .before .r2 .given .1) at (c .before .before .before .before .before .before .before .sheet-of .ensures)
 
--- src/main.rt:21:42
 slice-aggregate-write-all-3 : tie.Need-slice-aggregate-write-all-3
 slice-aggregate-write-all-3 c = sym (length-take-le _ _ (rw (c .before .before .r2 .given .1) at (c .before .before .before .before .before .before .before .before .sheet-of .ensures)))
 
--- src/main.rt:21:13
 write-all-requires-3 : tie.Need-write-all-requires-3
 write-all-requires-3 c κs = search needs
 
--- src/main.rt:13:1
 same-length : tie.Need-same-length
 same-length c = search needs
 
--- src/main.rt:13:1
 same-length-2 : tie.Need-same-length-2
 same-length-2 c = search needs
 
--- src/main.rt:13:1
 same-length-3 : tie.Need-same-length-3
 same-length-3 c = search needs
 
--- src/main.rt:13:1
 returns : tie.Need-returns
 returns c = search needs
 
--- src/main.rt:13:1
 same-length-4 : tie.Need-same-length-4
 same-length-4 c = search needs
 
--- src/main.rt:13:1
 same-length-5 : tie.Need-same-length-5
 same-length-5 c = search needs
 
--- src/main.rt:13:1
 same-length-6 : tie.Need-same-length-6
 same-length-6 c = search needs
 
--- src/main.rt:13:1
 returns-2 : tie.Need-returns-2
 returns-2 c = search needs
 
@@ -106,6 +86,7 @@ run-spec =
     slice-aggregate-sheet-of
     sheet-of-requires
     enum-known-r
+    write-gap-requires
     slice-reshare-prefix-write-all
     slice-aggregate-write-all
     write-all-requires

@@ -16,6 +16,9 @@ add-word c = search needs
 add-word-2 : tie.Need-add-word-2
 add-word-2 c = search needs
 
+add-word-3 : tie.Need-add-word-3
+add-word-3 c = search needs
+
 word-requires : tie.Need-word-requires
 word-requires c κs = search needs
 
@@ -26,4 +29,4 @@ returns c = (
 )
 
 pub word-of-spec : {M : Type 1} → statement M
-word-of-spec = tie.close (tie.spec mul-word add-word add-word-2 word-requires returns)
+word-of-spec = tie.close (tie.spec mul-word add-word add-word-2 add-word-3 word-requires returns)

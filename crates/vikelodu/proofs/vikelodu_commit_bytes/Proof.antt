@@ -20,7 +20,6 @@ returns c =
     let e = c .before .before .before .before .before .commit-bytes .ensures in
     record {
       words = _;
-      work-words = _;
       strip-left = e .strip-left;
       work-left = e .work-left;
       step = record { answer = _; step = e .step; packs = c .pack-committing .ensures };

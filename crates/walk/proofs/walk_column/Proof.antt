@@ -1,70 +1,83 @@
 -- `walk_column` meets its contract: no height below the one that is tried is free, and the runs before the one that is tried stay free up to
--- `stay`. Each try goes on by a run or up by a jump, so the tries come to an end.
+-- `stay`. Each try goes on by a run or up by a jump, so the tries come to an end. Runs past the last column count for nothing.
 -- Assumes nothing.
 use borrow.Author.Needs.{needs}
 use native.Mathlib.Omega.{arith}
 use Prim.Native.Nat.{_+_, _-_, _*_}
-use Rattle.walk.proofs.Jumps.{Going, going-start, going-clear, going-jump, going-stop, going-end, falls, run-column}
+use Rattle.walk.proofs.Jumps.{Going, going-start, going-clear, going-jump, going-stop, going-end, falls, run-column, least-all, none-all}
 use Rattle.walk.proofs.walk_column.Statement.{statement}
 use Rattle.walk.proofs.walk_column.Tie as tie
 
 abbrev Inv-loop : tie.InvT-loop
-Inv-loop first lows highs runs c top p y₀ k₀ stay₀ y k stay = Going first lows highs runs p c top y k stay
+Inv-loop first lows highs runs c top n p y₀ k₀ stay₀ y k stay = Going first lows highs runs n p c top y k stay
 
 abbrev μ-loop : tie.MeasureT-loop
-μ-loop first lows highs runs c top p y₀ k₀ stay₀ y k stay = (top - y) * (p + 1) + (p - k)
+μ-loop first lows highs runs c top n p y₀ k₀ stay₀ y k stay = (top - y) * (p + 1) + (p - k)
 
 sub-top : tie.Need-sub-top Inv-loop μ-loop
 sub-top c = search needs
 
+sub-runs-before : tie.Need-sub-runs-before Inv-loop μ-loop
+sub-runs-before c = omega (arith, c .before .before .before .before .before .pre .1)
+
+runs-before-requires : tie.Need-runs-before-requires Inv-loop μ-loop
+runs-before-requires c κs = record { reach = _; rows = _; piece = c .before .before .before .before .before .pre .0 .piece }
+
 loop-holds : tie.Need-loop-holds Inv-loop μ-loop
-loop-holds c = going-start _ _ _ _ _ _ _
+loop-holds c = going-start _ _ _ _ _ _ _ _
 
 mul-col : tie.Need-mul-col Inv-loop μ-loop
-mul-col c = search needs
+mul-col c = omega (arith, c .before .before .runs-before .ensures .few, c .before .before .before .before .before .before .before .before .pre .0 .piece .long, c .before .before .before .before .before .before .before .before .good)
 
 mul-col-2 : tie.Need-mul-col-2 Inv-loop μ-loop
-mul-col-2 c = search needs
+mul-col-2 c = omega (arith, c .before .before .runs-before .ensures .few, c .before .before .before .before .before .before .before .before .pre .0 .piece .long, c .before .before .before .before .before .before .before .before .good)
 
 shared-slice-read-col : tie.Need-shared-slice-read-col Inv-loop μ-loop
-shared-slice-read-col c = search needs
+shared-slice-read-col c = omega (arith, c .before .before .before .runs-before .ensures .few, c .before .before .before .before .before .before .before .before .before .pre .0 .piece .long)
 
 cast-col : tie.Need-cast-col Inv-loop μ-loop
 cast-col c = omega (arith, c .shared-slice-known5 .given (3 * c .before .before .loop .k))
 
 add-col : tie.Need-add-col Inv-loop μ-loop
-add-col c = let pre = c .before .before .before .before .before .before .before .before .pre in omega (arith, pre .0 .piece .wide (c .before .before .loop .k) (omega arith), pre .1)
+add-col c = omega (arith, c .before .before .before .runs-before .ensures .inside (c .before .before .loop .k) (omega arith), c .before .before .before .before .before .before .before .before .before .pre .1)
 
 mul-lo : tie.Need-mul-lo Inv-loop μ-loop
-mul-lo c = search needs
+mul-lo c = omega (arith, c .before .before .before .runs-before .ensures .few, c .before .before .before .before .before .before .before .before .before .pre .0 .piece .long, c .before .before .before .before .before .before .before .before .before .good)
 
 add-lo : tie.Need-add-lo Inv-loop μ-loop
-add-lo c = search needs
+add-lo c = omega (arith, c .before .before .before .runs-before .ensures .few, c .before .before .before .before .before .before .before .before .before .pre .0 .piece .long, c .before .before .before .before .before .before .before .before .before .good)
 
 mul-lo-2 : tie.Need-mul-lo-2 Inv-loop μ-loop
-mul-lo-2 c = search needs
+mul-lo-2 c = omega (arith, c .before .before .before .runs-before .ensures .few, c .before .before .before .before .before .before .before .before .before .pre .0 .piece .long, c .before .before .before .before .before .before .before .before .before .good)
 
 shared-slice-read-lo : tie.Need-shared-slice-read-lo Inv-loop μ-loop
-shared-slice-read-lo c = search needs
+shared-slice-read-lo c = omega (arith, c .before .before .before .before .runs-before .ensures .few, c .before .before .before .before .before .before .before .before .before .before .pre .0 .piece .long)
 
 mul-hi : tie.Need-mul-hi Inv-loop μ-loop
-mul-hi c = search needs
+mul-hi c = omega (arith, c .before .before .before .before .runs-before .ensures .few, c .before .before .before .before .before .before .before .before .before .before .pre .0 .piece .long, c .before .before .before .before .before .before .before .before .before .before .good)
 
 add-hi : tie.Need-add-hi Inv-loop μ-loop
-add-hi c = search needs
+add-hi c = omega (arith, c .before .before .before .before .runs-before .ensures .few, c .before .before .before .before .before .before .before .before .before .before .pre .0 .piece .long, c .before .before .before .before .before .before .before .before .before .before .good)
 
 mul-hi-2 : tie.Need-mul-hi-2 Inv-loop μ-loop
-mul-hi-2 c = search needs
+mul-hi-2 c = omega (arith, c .before .before .before .before .runs-before .ensures .few, c .before .before .before .before .before .before .before .before .before .before .pre .0 .piece .long, c .before .before .before .before .before .before .before .before .before .before .good)
 
 shared-slice-read-hi : tie.Need-shared-slice-read-hi Inv-loop μ-loop
-shared-slice-read-hi c = search needs
+shared-slice-read-hi c = omega (arith, c .before .before .before .before .before .runs-before .ensures .few, c .before .before .before .before .before .before .before .before .before .before .before .pre .0 .piece .long)
 
 try-run-requires : tie.Need-try-run-requires Inv-loop μ-loop
 try-run-requires c κs =
-    let pre = c .before .before .before .before .before .before .before .before .before .before .pre in
+    let pre = c .before .before .before .before .before .before .before .before .before .before .before .pre in
     let k = c .before .before .before .before .loop .k in
     let g = c .before .before .before .before .loop .inv in
-    (run-column (pre .0) _ (pre .1 .0) (omega arith), (pre .0 .piece .some k (omega arith), omega (arith, pre .0 .piece .tall k (omega arith), g .low, g .high), g .low))
+    let b = c .before .before .before .before .before .runs-before .ensures in (
+      run-column (pre .0) _ (omega (arith, pre .1)) b (omega arith),
+      (
+        pre .0 .piece .some k (omega (arith, b .few)),
+        omega (arith, pre .0 .piece .tall k (omega (arith, b .few)), pre .0 .over, g .low, g .high, pre .1),
+        g .low,
+      ),
+    )
 
 enum-known-z : tie.Need-enum-known-z Inv-loop μ-loop
 enum-known-z c = search needs
@@ -76,32 +89,36 @@ loop-less : tie.Need-loop-less Inv-loop μ-loop
 loop-less c = omega arith
 
 loop-again : tie.Need-loop-again Inv-loop μ-loop
-loop-again c =
-    going-clear (c .before .before .before .before .before .before .before .before .loop .inv) (omega arith) (rw (c .before .z .given .1) at (c .before .before .before .try-run .ensures))
+loop-again c = going-clear (c .before .before .before .before .before .before .before .before .loop .inv) (omega arith) (rw (c .before .z .given .1) at (c .before .before .before .try-run .ensures))
 
 enum-known-z-2 : tie.Need-enum-known-z-2 Inv-loop μ-loop
 enum-known-z-2 c = search needs
 
 returns : tie.Need-returns Inv-loop μ-loop
 returns c =
-    let pre = c .before .before .before .before .before .before .before .before .before .before .before .before .before .before .before .pre in
-    going-stop (pre .0) (pre .1 .0) (omega arith) (c .before .before .before .before .before .before .before .before .before .loop .inv) (rw (c .before .before .z2 .given .1) at (c .before .before .before .before .try-run .ensures)) (omega arith) (omega arith)
+    let pre = c .before .before .before .before .before .before .before .before .before .before .before .before .before .before .before .before .pre in
+    let b = c .before .before .before .before .before .before .before .before .before .before .runs-before .ensures in
+    none-all (omega (arith, pre .1)) b
+    (going-stop (pre .0) (omega (arith, pre .1)) b (omega arith) (c .before .before .before .before .before .before .before .before .before .loop .inv) (rw (c .before .before .z2 .given .1) at (c .before .before .before .before .try-run .ensures)) (omega arith)
+    (omega arith))
 
 go-on-requires : tie.Need-go-on-requires Inv-loop μ-loop
 go-on-requires c κs = omega (arith, c .before .before .before .before .before .before .before .before .before .loop .inv .high)
 
 loop-less-2 : tie.Need-loop-less-2 Inv-loop μ-loop
 loop-less-2 c =
-    let pre = c .before .before .before .before .before .before .before .before .before .before .before .before .before .before .before .before .pre in
-    falls (pre .0) (pre .1 .0) (omega arith) (c .before .before .before .before .before .before .before .before .before .before .loop .inv) (rw (c .before .before .before .z2 .given .1) at (c .before .before .before .before .before .try-run .ensures)) (c .go-on .ensures)
+    let pre = c .before .before .before .before .before .before .before .before .before .before .before .before .before .before .before .before .before .pre in
+    falls (pre .0) (omega (arith, pre .1)) (c .before .before .before .before .before .before .before .before .before .before .before .runs-before .ensures) (omega arith) (c .before .before .before .before .before .before .before .before .before .before .loop .inv)
+    (rw (c .before .before .before .z2 .given .1) at (c .before .before .before .before .before .try-run .ensures)) (c .go-on .ensures)
 
 loop-again-2 : tie.Need-loop-again-2 Inv-loop μ-loop
 loop-again-2 c =
-    let pre = c .before .before .before .before .before .before .before .before .before .before .before .before .before .before .before .before .pre in
-    going-jump (pre .0) (pre .1 .0) (omega arith) (c .before .before .before .before .before .before .before .before .before .before .loop .inv) (rw (c .before .before .before .z2 .given .1) at (c .before .before .before .before .before .try-run .ensures)) (c .go-on .ensures)
+    let pre = c .before .before .before .before .before .before .before .before .before .before .before .before .before .before .before .before .before .pre in
+    going-jump (pre .0) (omega (arith, pre .1)) (c .before .before .before .before .before .before .before .before .before .before .before .runs-before .ensures) (omega arith) (c .before .before .before .before .before .before .before .before .before .before .loop .inv)
+    (rw (c .before .before .before .z2 .given .1) at (c .before .before .before .before .before .try-run .ensures)) (c .go-on .ensures)
 
 returns-2 : tie.Need-returns-2 Inv-loop μ-loop
-returns-2 c = going-end (c .before .loop .inv) (omega arith) (omega arith)
+returns-2 c = least-all (omega (arith, c .before .before .before .before .before .before .before .before .pre .1)) (c .before .before .runs-before .ensures) (going-end (c .before .loop .inv) (omega arith) (omega arith))
 
 pub walk-column-spec : {M : Type 1} → statement M
 walk-column-spec =
@@ -110,6 +127,8 @@ walk-column-spec =
     Inv-loop
     μ-loop
     sub-top
+    sub-runs-before
+    runs-before-requires
     loop-holds
     mul-col
     mul-col-2

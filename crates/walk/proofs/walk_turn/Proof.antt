@@ -8,7 +8,7 @@ use Rattle.walk.proofs.walk_turn.Statement.{statement}
 use Rattle.walk.proofs.walk_turn.Tie as tie
 
 abbrev Inv-loop : tie.InvT-loop
-Inv-loop first lows highs runs s n w c₀ c = Left first lows highs runs (s .width) (s .runs) (s .tall) c
+Inv-loop first lows highs runs s n w c₀ c = Left first lows highs runs (s .columns) (s .width) (s .runs) (s .tall) c
 
 abbrev μ-loop : tie.MeasureT-loop
 μ-loop first lows highs runs s n w c₀ c = n + 1 - c
@@ -20,7 +20,7 @@ returns-2 : tie.Need-returns-2 Inv-loop μ-loop
 returns-2 c = λ x e. absurd (omega arith)
 
 loop-holds : tie.Need-loop-holds Inv-loop μ-loop
-loop-holds c = left-none _ _ _ _ _ _ _
+loop-holds c = left-none _ _ _ _ _ _ _ _
 
 walk-column-requires : tie.Need-walk-column-requires Inv-loop μ-loop
 walk-column-requires c κs = search needs

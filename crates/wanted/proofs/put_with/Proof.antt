@@ -11,14 +11,17 @@ look-requires c κs = search needs
 enum-known-p : tie.Need-enum-known-p
 enum-known-p c = search needs
 
+slice-read-gap : tie.Need-slice-read-gap
+slice-read-gap c = omega (arith, c .before .before .before .before .before .before .before .before .before .before .before .before .look .ensures .next _ (c .before .before .p .given .1) .leading)
+
+slice-read-t28 : tie.Need-slice-read-t28
+slice-read-t28 c = omega (arith, c .before .before .before .before .before .before .before .before .before .before .before .before .before .look .ensures .next _ (c .before .before .before .p .given .1) .leading)
+
 slice-read-n : tie.Need-slice-read-n
-slice-read-n c = omega (arith, (c .before .before .before .before .before .before .before .before .before .before .before .before .look .ensures) .next _ (c .before .before .p .given .1) .leading)
+slice-read-n c = omega (arith, c .before .before .before .before .before .before .before .before .before .before .before .before .before .before .look .ensures .next _ (c .before .before .before .before .p .given .1) .leading)
 
-slice-read-t27 : tie.Need-slice-read-t27
-slice-read-t27 c = omega (arith, (c .before .before .before .before .before .before .before .before .before .before .before .before .before .look .ensures) .next _ (c .before .before .before .p .given .1) .leading)
-
-slice-read-t29 : tie.Need-slice-read-t29
-slice-read-t29 c = omega (arith, (c .before .before .before .before .before .before .before .before .before .before .before .before .before .before .look .ensures) .next _ (c .before .before .before .before .p .given .1) .leading)
+slice-read-gap-2 : tie.Need-slice-read-gap-2
+slice-read-gap-2 c = omega (arith, c .before .before .before .before .before .before .before .before .before .before .before .before .before .before .before .look .ensures .next _ (c .before .before .before .before .before .p .given .1) .leading)
 
 cast-n : tie.Need-cast-n
 cast-n c = search needs
@@ -27,13 +30,15 @@ mul-n : tie.Need-mul-n
 mul-n c = search needs
 
 slice-read-n-2 : tie.Need-slice-read-n-2
-slice-read-n-2 c = (c .before .before .before .before .before .before .before .before .before .before .before .before .before .before .before .before .look .ensures) .next _ (c .before .before .before .before .before .before .p .given .1) .flat .firsts
+slice-read-n-2 c = c .before .before .before .before .before .before .before .before .before .before .before .before .before .before .before .before .before .look .ensures .next _ (c .before .before .before .before .before .before .before .p .given .1) .flat .firsts
 
 cast-n-2 : tie.Need-cast-n-2
-cast-n-2 c = omega (arith, (c .before .before .before .before .before .before .before .before .before .before .before .before .before .before .before .before .look .ensures) .next _ (c .before .before .before .before .before .before .p .given .1) .few)
+cast-n-2 c = omega (arith, c .before .before .before .before .before .before .before .before .before .before .before .before .before .before .before .before .before .look .ensures .next _ (c .before .before .before .before .before .before .before .p .given .1) .few)
 
 encode-requires : tie.Need-encode-requires
-encode-requires c κs = let next = (c .before .before .before .before .before .before .before .before .before .before .before .before .before .before .before .before .before .before .before .before .look .ensures) .next _ (c .before .before .before .before .before .before .before .before .before .before .p .given .1) in (next .flat, next .room)
+encode-requires c κs =
+    let next = c .before .before .before .before .before .before .before .before .before .before .before .before .before .before .before .before .before .before .before .before .before .look .ensures .next _ (c .before .before .before .before .before .before .before .before .before .before .before .p .given .1) in
+    (next .flat, next .room)
 
 enum-known-r : tie.Need-enum-known-r
 enum-known-r c = search needs
@@ -54,7 +59,10 @@ same-length-5 : tie.Need-same-length-5
 same-length-5 c = search needs
 
 returns : tie.Need-returns
-returns c = put-placed (rw (c .before .before .before .before .before .before .before .before .before .before .before .before .before .p .given .1) at (c .before .before .before .before .before .before .before .before .before .before .before .before .before .before .before .before .before .before .before .before .before .before .before .look .ensures)) (c .before .before .encode .ensures)
+returns c =
+    put-placed
+    (rw (c .before .before .before .before .before .before .before .before .before .before .before .before .before .before .p .given .1) at
+    (c .before .before .before .before .before .before .before .before .before .before .before .before .before .before .before .before .before .before .before .before .before .before .before .before .look .ensures)) (c .before .before .encode .ensures)
 
 same-length-6 : tie.Need-same-length-6
 same-length-6 c = search needs
@@ -72,7 +80,8 @@ same-length-10 : tie.Need-same-length-10
 same-length-10 c = search needs
 
 returns-2 : tie.Need-returns-2
-returns-2 c = put-refused (rw (c .before .r .given .1) at (c .before .before .before .before .before .before .before .before .before .before .before .look .ensures))
+returns-2 c =
+    put-refused (rw (c .before .r .given .1) at (c .before .before .before .before .before .before .before .before .before .before .before .look .ensures))
 
 pub put-with-spec : {M : Type 1} → statement M
 put-with-spec =
@@ -80,9 +89,10 @@ put-with-spec =
     (tie.spec
     look-requires
     enum-known-p
+    slice-read-gap
+    slice-read-t28
     slice-read-n
-    slice-read-t27
-    slice-read-t29
+    slice-read-gap-2
     cast-n
     mul-n
     slice-read-n-2

@@ -24,16 +24,17 @@ const WALLET: [u16; 28] = [
     60, 680, 0, 648, 0, 72, 60, 40,
 ];
 
-/// A job on a strip of so many records, with the words of its cut list.
+/// A job on a strip of so many records with a gap, with the words of its cut list.
 struct Laid {
     job: Job,
+    g: u16,
     sheet: Vec<u8>,
     list_words: usize,
     q: usize,
 }
 
 impl Laid {
-    fn new(pieces: &[Piece], r: u16, n: u16, q: usize) -> Laid {
+    fn new(pieces: &[Piece], r: u16, n: u16, g: u16, q: usize) -> Laid {
         let job = Job {
             figures: Figures {
                 width: WIDTH,
@@ -46,12 +47,13 @@ impl Laid {
             sheet: job.sheet(),
             list_words: list_words(pieces).len(),
             job,
+            g,
             q,
         }
     }
 
     fn strip_words(&self) -> usize {
-        4 + usize::from(self.job.figures.columns) + 4 * self.q
+        5 + usize::from(self.job.figures.columns) + 4 * self.q
     }
 }
 
@@ -63,7 +65,7 @@ type Entries = Vec<[u16; 4]>;
 fn by_plain(laid: &Laid) -> (Entries, Board) {
     let mut list = vec![0; laid.list_words];
     let of = plain_sheet::read(&laid.sheet, &mut list).expect("a sound sheet");
-    let mut board = Board::open(of.width, of.resolution, of.columns, laid.q);
+    let mut board = Board::open(of.width, of.resolution, of.columns, laid.g, laid.q);
     let mut entries = Vec::new();
     let mut rest = &list[1..];
     while let [vertices, mask, words @ ..] = rest {
@@ -87,6 +89,7 @@ struct Lent {
 fn by_engine(laid: &Laid, lent: &mut Lent) -> Totals {
     engine::lay(
         &laid.sheet,
+        laid.g,
         &mut lent.strip,
         &mut lent.output,
         &mut lent.work,
@@ -98,7 +101,8 @@ fn by_engine(laid: &Laid, lent: &mut Lent) -> Totals {
 fn cover_all(laid: &Laid, output: &mut [u16]) {
     for piece in &laid.job.pieces {
         for turn in (0..4).filter(|turn| piece.mask >> turn & 1 == 1) {
-            let runs = engine::cover(&piece.outline, turn, laid.job.figures.resolution, output);
+            let r = laid.job.figures.resolution;
+            let runs = engine::cover(&piece.outline, turn, r, laid.g, output);
             assert!(runs.is_ok());
         }
     }
@@ -156,7 +160,8 @@ fn row(name: &str, laid: &Laid) {
         ..
     } = laid.job.figures;
     println!(
-        "{name:9} R {resolution:3} mask {:2}  N {columns:4} Q {:5}  placed {placed:3} of {count:3}  engine {engine:9.0} us  plain {plain:9.0} us  ratio {:.2}  read {read:6.0} us  cover {cover:6.0} us",
+        "{name:9} R {resolution:3} gap {:2} mask {:2}  N {columns:4} Q {:5}  placed {placed:3} of {count:3}  engine {engine:9.0} us  plain {plain:9.0} us  ratio {:.2}  read {read:6.0} us  cover {cover:6.0} us",
+        laid.g,
         laid.job.pieces[0].mask,
         laid.q,
         engine / plain
@@ -181,21 +186,24 @@ fn main() {
         for (r, n, q) in [(100, 300, 4_000), (20, 1_500, 16_000)] {
             for mask in [1, 15] {
                 let pieces = pieces(file, times, count, mask);
-                row(name, &Laid::new(&pieces, r, n, q));
+                row(name, &Laid::new(&pieces, r, n, 0, q));
             }
         }
     }
     // As fine as 4,096 columns allow for them.
     for mask in [1, 15] {
         let pieces = pieces(data::NC_COUNTIES, 1, 25, mask);
-        row("counties", &Laid::new(&pieces, 4, 4_096, 16_000));
+        row("counties", &Laid::new(&pieces, 4, 4_096, 0, 16_000));
     }
     // Copies of one piece: room for all, and for some.
     for (r, n) in [(20, 1_500), (20, 300), (4, 4_096)] {
         for mask in [1, 15] {
             let outline = WALLET.to_vec();
             let pieces = vec![Piece { outline, mask }; 100];
-            row("wallets", &Laid::new(&pieces, r, n, 16_000));
+            row("wallets", &Laid::new(&pieces, r, n, 0, 16_000));
         }
     }
+    // Five millimetres between the pieces.
+    let pieces = pieces(data::NC_COUNTIES, 1, 50, 15);
+    row("counties", &Laid::new(&pieces, 20, 1_500, 40, 16_000));
 }

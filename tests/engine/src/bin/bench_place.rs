@@ -24,6 +24,7 @@ struct List {
     mask: u16,
     r: u16,
     n: u16,
+    g: u16,
     q: usize,
 }
 
@@ -51,7 +52,7 @@ fn laid(list: &List, start: Instant, mut place: impl FnMut(&[u16]) -> Answer) ->
 
 fn by_engine(list: &List, strip: &mut [u16], work: &mut [u16]) -> Laid {
     let start = Instant::now();
-    assert!(engine::open(WIDTH, list.r, list.n, strip).is_ok());
+    assert!(engine::open(WIDTH, list.r, list.n, list.g, strip).is_ok());
     laid(list, start, |outline| {
         engine::place(strip, outline, list.mask, work)
     })
@@ -66,7 +67,7 @@ fn by_engine_on_bytes(
 ) -> Laid {
     let mut outlines = outlines.iter();
     let start = Instant::now();
-    assert!(engine::open_bytes(WIDTH, list.r, list.n, strip).is_ok());
+    assert!(engine::open_bytes(WIDTH, list.r, list.n, list.g, strip).is_ok());
     laid(list, start, |_| {
         let outline = outlines.next().expect("one for each");
         engine::place_bytes(strip, outline, list.mask, work)
@@ -76,7 +77,7 @@ fn by_engine_on_bytes(
 /// The same in two steps; the microseconds of all asks and of all commits.
 fn in_two_steps(list: &List, strip: &mut [u16], work: &mut [u16]) -> (Vec<Answer>, [f64; 2]) {
     let mut times = [0.0; 2];
-    assert!(engine::open(WIDTH, list.r, list.n, strip).is_ok());
+    assert!(engine::open(WIDTH, list.r, list.n, list.g, strip).is_ok());
     let answers = list.outlines.iter().map(|outline| {
         let start = Instant::now();
         let answer = engine::ask(strip, outline, list.mask, work);
@@ -93,15 +94,15 @@ fn in_two_steps(list: &List, strip: &mut [u16], work: &mut [u16]) -> (Vec<Answer
 
 fn by_plain(list: &List) -> (Laid, Board) {
     let start = Instant::now();
-    let mut board = Board::open(WIDTH, list.r, list.n, list.q);
+    let mut board = Board::open(WIDTH, list.r, list.n, list.g, list.q);
     let laid = laid(list, start, |outline| board.place(outline, list.mask, WORK));
     (laid, board)
 }
 
 fn by_plain_on_words(list: &List, strip: &mut [u16]) -> Laid {
     let start = Instant::now();
-    assert!(plain_strip::open(WIDTH, list.r, list.n, strip));
-    let mut board = Board::open(WIDTH, list.r, list.n, list.q);
+    assert!(plain_strip::open(WIDTH, list.r, list.n, list.g, strip));
+    let mut board = Board::open(WIDTH, list.r, list.n, list.g, list.q);
     laid(list, start, |outline| {
         assert!(plain_strip::decode(strip).is_some());
         let answer = board.place(outline, list.mask, WORK);
@@ -115,7 +116,7 @@ fn by_plain_on_words(list: &List, strip: &mut [u16]) -> Laid {
 /// The rounds of the programs take turns, so that what else the machine does falls on
 /// all; the least time of each quarter counts.
 fn row(name: &str, list: &List) {
-    let mut strip = vec![0; 4 + usize::from(list.n) + 4 * list.q];
+    let mut strip = vec![0; 5 + usize::from(list.n) + 4 * list.q];
     let mut work = vec![0; WORK];
     let mut words = strip.clone();
     let (mut strip_bytes, mut work_bytes) = (vec![0; 2 * strip.len()], vec![0; 2 * WORK]);
@@ -152,8 +153,9 @@ fn row(name: &str, list: &List) {
     let sum = |quarters: [f64; 4]| -> f64 { quarters.iter().sum() };
     let (ours, theirs, third) = (sum(engine), sum(plain), sum(on_words));
     println!(
-        "{name:9} R {:3} mask {:2}  N {:4} Q {:5}  placed {placed:3} of {:3}  engine {:9.0} us  plain {:9.0} us  ratio {:.2}  on words {:9.0} us  ratio {:.2}  as bytes {on_bytes:9.0} us, {:.2} of words",
+        "{name:9} R {:3} gap {:2} mask {:2}  N {:4} Q {:5}  placed {placed:3} of {:3}  engine {:9.0} us  plain {:9.0} us  ratio {:.2}  on words {:9.0} us  ratio {:.2}  as bytes {on_bytes:9.0} us, {:.2} of words",
         list.r,
+        list.g,
         list.mask,
         list.n,
         list.q,
@@ -196,10 +198,21 @@ fn main() {
                     mask,
                     r,
                     n,
+                    g: 0,
                     q,
                 };
                 row(name, &list);
             }
         }
     }
+    // Five millimetres between the pieces.
+    let list = List {
+        outlines: data::sound_outlines(data::NC_COUNTIES, 1, 50),
+        mask: 15,
+        r: 20,
+        n: 1_500,
+        g: 40,
+        q: 16_000,
+    };
+    row("counties", &list);
 }

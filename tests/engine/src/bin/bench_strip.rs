@@ -32,11 +32,12 @@ fn strips(n: u16, q: usize, shuffled: bool) -> Vec<Vec<u16>> {
                 w: WIDTH,
                 r: RESOLUTION,
                 n,
+                g: 0,
                 q,
             };
             let mut strip = strip_with(&mut random, figures, &runs);
             if !shuffled {
-                put_runs(&mut strip, WIDTH, RESOLUTION, n, &runs);
+                put_runs(&mut strip, WIDTH, RESOLUTION, n, 0, &runs);
             }
             assert!(reference::well_formed(&strip));
             strip
@@ -122,8 +123,8 @@ fn open_row(n: u16, q: usize) {
     row(
         &format!("open, N {n} Q {q}"),
         &strips,
-        &mut |_| assert!(engine::open(WIDTH, RESOLUTION, n, &mut ours).is_ok()),
-        &mut |_| assert!(plain_strip::open(WIDTH, RESOLUTION, n, &mut theirs)),
+        &mut |_| assert!(engine::open(WIDTH, RESOLUTION, n, 0, &mut ours).is_ok()),
+        &mut |_| assert!(plain_strip::open(WIDTH, RESOLUTION, n, 0, &mut theirs)),
     );
     assert!(ours == theirs);
 }

@@ -4,15 +4,19 @@
 //!
 //! - Line A, bad sheets: the sheet as it is, and some thousand damaged copies of it.
 //! - Line B, the outline: each cell of each piece in each allowed turn.
-//! - Line C, the fit: each position of each piece, before it is laid.
+//! - Line C, the fit: each position of each piece, before it is laid; then how near
+//!   the pieces lie to each other.
+//!
+//! A gap of the job is a part of the cells in B, and of the strip in C.
 
 use engine::guard::Guarded;
 use reference::cells::{covered_plain, stretches};
-use reference::outline::{columns_wide, extent, turned, vertices};
+use reference::distance::{too_close, Shape};
+use reference::outline::{columns_wide, extent, turned, vertices, Vertex};
 use reference::placing::{best, board_of, least_free, least_free_plain, turned_piece};
 use reference::questions::turns_of_mask;
 use reference::sheet::{ask_head, pieces_of_sheet};
-use reference::text::sheet_of_text;
+use reference::text::{gap_and_sheet, sheet_of_text};
 use reference::{Figures, Piece, Position, Refusal};
 use std::io::Read;
 use std::process::exit;
@@ -30,26 +34,42 @@ fn main() {
     std::io::stdin()
         .read_to_end(&mut input)
         .expect("the input can be read");
-    let sheet = sheet_of(input);
+    let (gap, sheet) = job_of(&input);
     line_a(&sheet);
     let answer = ask_head(&sheet).and_then(|figures| Ok((figures, pieces_of_sheet(&sheet)?)));
     let Ok((figures, pieces)) = answer else {
         println!("B, C  nothing to lay: the sheet is refused");
         return;
     };
-    line_b(figures, &pieces);
-    line_c(figures, &pieces);
+    if gap != 0 {
+        println!("B, C  the gap is {} mm", in_millimetres(gap));
+    }
+    line_b(figures, gap, &pieces);
+    line_c(figures, gap, &pieces);
 }
 
-/// The sheet of a text, or the input as it is if it begins as a sheet does.
-fn sheet_of(input: Vec<u8>) -> Vec<u8> {
-    if input.starts_with(b"NJ") {
-        return input;
+/// The gap and the sheet of a text, or of the input as it is if its sheet begins as
+/// one does.
+fn job_of(input: &[u8]) -> (u16, Vec<u8>) {
+    let (gap, sheet) = gap_and_sheet(input);
+    if sheet.starts_with(b"NJ") {
+        return (gap, sheet.to_vec());
     }
-    sheet_of_text(&input).unwrap_or_else(|message| {
-        eprintln!("{message}");
-        exit(1)
-    })
+    match sheet_of_text(input) {
+        Ok(written) => {
+            let (gap, sheet) = gap_and_sheet(&written);
+            (gap, sheet.to_vec())
+        }
+        Err(message) => {
+            eprintln!("{message}");
+            exit(1)
+        }
+    }
+}
+
+/// An eighth is exact in floating point.
+fn in_millimetres(units: u16) -> f64 {
+    f64::from(units) / 8.0
 }
 
 /// Ends the program where the two differ.
@@ -110,17 +130,61 @@ fn line_a(sheet: &[u8]) {
     );
 }
 
+/// The unit cells of an outline. Each is worked out from points, when it is first
+/// asked for.
+struct Units<'a> {
+    outline: &'a [Vertex],
+    h: i64,
+    known: Vec<Vec<Option<bool>>>,
+}
+
+impl Units<'_> {
+    fn new(outline: &[Vertex]) -> Units<'_> {
+        let (w, h) = extent(outline);
+        let known = vec![Vec::new(); w as usize];
+        Units { outline, h, known }
+    }
+
+    /// Whether the unit cell holds a point inside.
+    fn hold(&mut self, k: i64, j: i64) -> bool {
+        let column = &mut self.known[k as usize];
+        if column.is_empty() {
+            *column = vec![None; self.h as usize];
+        }
+        *column[j as usize].get_or_insert_with(|| covered_plain(self.outline, 1, k, j))
+    }
+
+    /// The rows of a column, whether they belong to the piece: S-4, "when a unit cell
+    /// holding an inside point lies 0 to g columns to its left and 0 to g rows below
+    /// it".
+    fn rows(&mut self, column: i64, r: i64, g: i64) -> Vec<bool> {
+        let from = (column * r - g).max(0);
+        let to = ((column + 1) * r).min(self.known.len() as i64);
+        let mut rows = vec![false; (self.h + g) as usize];
+        let mut last = None;
+        for j in 0..self.h + g {
+            if j < self.h && (from..to).any(|k| self.hold(k, j)) {
+                last = Some(j);
+            }
+            rows[j as usize] = last.is_some_and(|below| j - below <= g);
+        }
+        rows
+    }
+}
+
 /// "she lays a tracing on the grid"
-fn line_b(figures: Figures, pieces: &[Piece]) {
-    let r = i64::from(figures.resolution);
+fn line_b(figures: Figures, gap: u16, pieces: &[Piece]) {
+    let (r, g) = (i64::from(figures.resolution), i64::from(gap));
+    let with_gap = if gap == 0 { "" } else { " with the gap" };
     for (ordinal, piece) in (1..).zip(pieces) {
         for turn in turns_of_mask(piece.mask).expect("the sheet is accepted") {
             let outline = turned(&vertices(&piece.outline), turn);
             let (w, h) = extent(&outline);
+            let mut units = Units::new(&outline);
             let mut by_hand = Vec::new();
             let mut cells = 0;
-            for i in 0..columns_wide(w, r) {
-                let rows: Vec<bool> = (0..h).map(|j| covered_plain(&outline, r, i, j)).collect();
+            for i in 0..columns_wide(w + g, r) {
+                let rows = units.rows(i, r, g);
                 cells += rows.iter().filter(|&&covered| covered).count();
                 for (low, high) in stretches(&rows) {
                     by_hand.extend([i as u16, low as u16, high as u16]);
@@ -128,32 +192,33 @@ fn line_b(figures: Figures, pieces: &[Piece]) {
             }
             let mut output = vec![0; by_hand.len()];
             let what = format!("the cells of piece {ordinal} in turn {turn}");
-            let count = engine::cover(&piece.outline, turn, figures.resolution, &mut output);
+            let count = engine::cover(&piece.outline, turn, figures.resolution, gap, &mut output);
             let runs = by_hand.len() as u32 / 3;
             same(&what, (count.ok(), output), (Some(runs), by_hand));
             println!(
-                "B  piece {ordinal}, turn {turn}: {cells} of {} cells, each as by hand",
-                columns_wide(w, r) * h
+                "B  piece {ordinal}, turn {turn}: {cells} of {} cells{with_gap}, each as by hand",
+                columns_wide(w + g, r) * (h + g)
             );
         }
     }
 }
 
 /// "she tries every free spot by hand"
-fn line_c(figures: Figures, pieces: &[Piece]) {
+fn line_c(figures: Figures, gap: u16, pieces: &[Piece]) {
     let Figures {
         width,
         resolution,
         columns,
     } = figures;
-    let mut strip = vec![0; 4 + usize::from(columns) + 4 * RECORDS];
-    engine::open(width, resolution, columns, &mut strip).expect("the sheet is accepted");
+    let mut strip = vec![0; 5 + usize::from(columns) + 4 * RECORDS];
+    engine::open(width, resolution, columns, gap, &mut strip).expect("the sheet is accepted");
+    let mut laid = Vec::new();
     for (ordinal, piece) in (1..).zip(pieces) {
         let board = board_of(&strip);
         let turns: Vec<_> = turns_of_mask(piece.mask)
             .expect("the sheet is accepted")
             .into_iter()
-            .map(|turn| turned_piece(&piece.outline, turn, board.r))
+            .map(|turn| turned_piece(&piece.outline, turn, board.r, board.g))
             .collect();
         // Cell by cell, or on a large board by striking out all heights at which two runs overlap.
         let search = if board.w * board.n > MOST_BY_CELLS {
@@ -174,9 +239,10 @@ fn line_c(figures: Figures, pieces: &[Piece]) {
                 println!(
                     "C  piece {ordinal}: turn {}, {} mm along, {} mm up: the best of all free spots",
                     position.turn,
-                    f64::from(position.column) * f64::from(resolution) / 8.0,
-                    f64::from(position.height) / 8.0
+                    f64::from(position.column) * in_millimetres(resolution),
+                    in_millimetres(position.height)
                 );
+                laid.push((ordinal, Shape::new(&piece.outline, position, resolution)));
             }
             Err(Refusal { number: 13, .. }) => {
                 same(&what, None, by_hand);
@@ -184,5 +250,25 @@ fn line_c(figures: Figures, pieces: &[Piece]) {
             }
             Err(Refusal { number, .. }) => println!("C  piece {ordinal}: refused {number}"),
         }
+    }
+    apart(gap, &laid);
+}
+
+/// How near the laid pieces are to each other, from their outlines and not by cells.
+fn apart(gap: u16, laid: &[(u32, Shape)]) {
+    for (place, (ordinal, piece)) in laid.iter().enumerate() {
+        for (before, other) in &laid[..place] {
+            if too_close(piece, other, gap) {
+                println!("C  pieces {before} and {ordinal} lie too near to each other");
+                exit(1);
+            }
+        }
+    }
+    match gap {
+        0 => println!("C  no point lies inside two pieces"),
+        gap => println!(
+            "C  points inside different pieces are at least {} mm apart, along or across the strip",
+            in_millimetres(gap)
+        ),
     }
 }

@@ -9,10 +9,11 @@
 use engine::guard::{End, Room, Unit};
 use reference::figures::NUMBERS;
 use reference::generate::{
-    any_figures, any_outline, any_path, change_words, damaged_sheet, damaged_strip, job,
-    small_figures, sound_sheet, sound_strip, Call, CommitCall, Damage, MixedList, PlaceCall,
-    Random, SheetDamage,
+    any_figures, any_gap, any_outline, any_path, change_words, damaged_sheet, damaged_strip, job,
+    small_figures, small_gap, sound_sheet, sound_strip, Call, CommitCall, Damage, MixedList,
+    PlaceCall, Random, SheetDamage,
 };
+use reference::strip::LEADING;
 use reference::{bytes, Figures, Position, Refusal, Totals};
 use std::fmt::Debug;
 
@@ -48,8 +49,8 @@ const COMMIT: usize = 3;
 const LAY: usize = 4;
 
 /// A call as the engine and as the reference program have it.
-type Open<T> = [fn(u16, u16, u16, &mut [T]) -> Result<(), Refusal>; 2];
-type Lay<T> = [fn(&[u8], &mut [T], &mut [T], &mut [T]) -> Result<Totals, Refusal>; 2];
+type Open<T> = [fn(u16, u16, u16, u16, &mut [T]) -> Result<(), Refusal>; 2];
+type Lay<T> = [fn(&[u8], u16, &mut [T], &mut [T], &mut [T]) -> Result<Totals, Refusal>; 2];
 /// Of place, ask and commit. A mask or a position stands after the outline.
 type LayPiece<T, X, A> = [fn(&mut [T], &[T], X, &mut [T]) -> Result<A, Refusal>; 2];
 
@@ -109,7 +110,7 @@ impl<T: Unit> Rooms<T> {
         &mut self,
         [ours, theirs]: Open<T>,
         [end, ..]: [End; 4],
-        figures: Figures,
+        (figures, g): (Figures, u16),
         strip: &mut [T],
     ) -> Result<(), Refusal> {
         let Figures {
@@ -118,9 +119,9 @@ impl<T: Unit> Rooms<T> {
             columns: n,
         } = figures;
         let lent = self.strip.lend_at(end, strip);
-        let answer = theirs(w, r, n, strip);
-        assert_eq!(ours(w, r, n, lent), answer, "{figures:?}");
-        assert!(*lent == *strip, "strip: {figures:?}");
+        let answer = theirs(w, r, n, g, strip);
+        assert_eq!(ours(w, r, n, g, lent), answer, "{figures:?} gap {g}");
+        assert!(*lent == *strip, "strip: {figures:?} gap {g}");
         assert!(self.strip.kept_at(end, strip.len()), "{figures:?}");
         answer
     }
@@ -155,16 +156,16 @@ impl<T: Unit> Rooms<T> {
         &mut self,
         [ours, theirs]: Lay<T>,
         [end, sheet_end, work_end, output_end]: [End; 4],
-        sheet: &[u8],
+        (sheet, g): (&[u8], u16),
         [strip, output, work]: [&mut [T]; 3],
     ) -> Result<Totals, Refusal> {
         let lent_sheet = self.sheet.lend_at(sheet_end, sheet);
         let lent_strip = self.strip.lend_at(end, strip);
         let lent_output = self.output.lend_at(output_end, output);
         let lent_work = self.work.lend_at(work_end, work);
-        let ours = ours(lent_sheet, lent_strip, lent_output, lent_work);
-        let answer = theirs(sheet, strip, output, work);
-        assert_eq!(ours, answer, "{sheet:?}");
+        let ours = ours(lent_sheet, g, lent_strip, lent_output, lent_work);
+        let answer = theirs(sheet, g, strip, output, work);
+        assert_eq!(ours, answer, "gap {g} {sheet:?}");
         assert!(*lent_sheet == *sheet, "sheet: {sheet:?}");
         assert!(*lent_strip == *strip, "strip: {sheet:?}");
         assert!(*lent_output == *output, "output: {sheet:?}");
@@ -265,8 +266,8 @@ impl Soak {
         (false, [self.random.pick(&[End::Before, End::After]); 4])
     }
 
-    /// Opens a strip of these words, which stay where it is refused.
-    fn open(&mut self, figures: Figures, strip: &mut [u16]) -> bool {
+    /// Opens a strip of these words with a gap; they stay where it is refused.
+    fn open(&mut self, figures: (Figures, u16), strip: &mut [u16]) -> bool {
         let (on_bytes, ends) = self.form();
         let answer = if on_bytes {
             let calls = [engine::open_bytes, bytes::open_bytes];
@@ -316,8 +317,8 @@ impl Soak {
         answer
     }
 
-    /// One call with a strip and an output of so many words.
-    fn lay(&mut self, sheet: &[u8], strip: usize, output: usize) {
+    /// One call with a gap and with a strip and an output of so many words.
+    fn lay(&mut self, sheet: &[u8], g: u16, strip: usize, output: usize) {
         let work = self.random.pick(&[0, 5, 60, 9_000]);
         let mut words = [strip, output, work].map(|count| any_words(&mut self.random, count));
         let (on_bytes, ends) = self.form();
@@ -327,7 +328,7 @@ impl Soak {
                 .each_ref()
                 .map(|words| as_bytes(&mut self.random, words));
             let buffers = lent.each_mut().map(Vec::as_mut_slice);
-            let answer = self.bytes.lay(calls, ends, sheet, buffers);
+            let answer = self.bytes.lay(calls, ends, (sheet, g), buffers);
             for (words, bytes) in words.iter_mut().zip(&lent) {
                 put_words(words, bytes);
             }
@@ -335,7 +336,7 @@ impl Soak {
         } else {
             let calls = [engine::lay, reference::lay];
             let buffers = words.each_mut().map(Vec::as_mut_slice);
-            self.words.lay(calls, ends, sheet, buffers)
+            self.words.lay(calls, ends, (sheet, g), buffers)
         };
         let [_, output, work] = words;
         assert!(work.iter().all(|&word| word == 0), "work: {sheet:?}");
@@ -391,9 +392,10 @@ impl Soak {
     fn list(&mut self) {
         let figures = small_figures(&mut self.random);
         let q = self.random.between(1, 30) as usize;
-        let words = 4 + usize::from(figures.columns) + 4 * q;
+        let g = small_gap(&mut self.random, figures.resolution);
+        let words = LEADING + usize::from(figures.columns) + 4 * q;
         let mut strip = any_words(&mut self.random, words);
-        assert!(self.open(figures, &mut strip));
+        assert!(self.open((figures, g), &mut strip));
         let count = self.random.between(1, 20) as usize;
         self.calls_on(&mut strip, count, 9);
     }
@@ -402,11 +404,12 @@ impl Soak {
     fn any_open(&mut self) {
         let figures = any_figures(&mut self.random);
         let columns = usize::from(figures.columns.min(4_097));
-        let right = 4 + columns + 4 * self.random.between(1, 30) as usize;
+        let right = LEADING + columns + 4 * self.random.between(1, 30) as usize;
         let other = self.random.index(200);
         let words = self.random.pick(&[right, right, right + 1, other]);
         let mut strip = any_words(&mut self.random, words);
-        self.open(figures, &mut strip);
+        let g = any_gap(&mut self.random, figures.resolution);
+        self.open((figures, g), &mut strip);
     }
 
     /// A strip with something wrong, or in an order that the engine does not write.
@@ -432,7 +435,7 @@ impl Soak {
             u16::from_le_bytes([two[0], two[1]]).clamp(1, 4_096)
         });
         let q = self.random.between(1, 60) as usize;
-        let strip = 4 + usize::from(columns) + 4 * q;
+        let strip = LEADING + usize::from(columns) + 4 * q;
         let output = 4 * pieces_of(&sheet);
         let other = self.random.index(output + 1);
         let output = self.random.pick(&[output, output, output + 3, other]);
@@ -441,7 +444,11 @@ impl Soak {
         } else {
             strip
         };
-        self.lay(&sheet, strip, output);
+        let g = match self.random.index(8) {
+            0 => any_gap(&mut self.random, 2),
+            _ => small_gap(&mut self.random, 2),
+        };
+        self.lay(&sheet, g, strip, output);
     }
 
     /// A path read to an output of any length; its outline, or any, written.
@@ -532,9 +539,9 @@ fn main() {
             lay.calls - lay.numbers[0],
         ];
         assert!(all.iter().all(|&times| times > least), "too few of a kind");
-        // Nor one that never meets W, R or N out of limits, or a strip with no room.
+        // Nor one that never meets W, R, N or a gap out of limits, or a strip with no room.
         let rarest = calls / (1_000 * share);
-        let limits = &[3, 16, 17][..];
+        let limits = &[3, 16, 17, 21][..];
         for (kind, numbers) in [
             (open, limits),
             (lay, limits),
