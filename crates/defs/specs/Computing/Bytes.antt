@@ -35,7 +35,7 @@ oddByte (a ∷ (b ∷ bs)) = oddByte bs
 unfoldable pub bytesLeft : List ℕ → List ℕ → List ℕ
 bytesLeft bs ws = wordBytes ws ++ oddByte bs
 
--- Of a work buffer so many words are used: with no gap, three for each run of the outline that has most (`enough-work` of promises).
+-- Of a work buffer so many words are used: with no gap, three for each run of the outline that has most (`enough` of promises).
 abbrev pub mostWork : ℕ
 mostWork = 1536000
 
