@@ -62,7 +62,7 @@ fn portion(
         ∗ ⌜ (length (now g0) ≡ 64) × (length (now g1) ≡ 64) ⌝ ∗ ⌜ Room (now lows) (now highs) n ⌝ }
     ensures { λ r. ⌜ AddsPart (now (h0 .entry)) (now (h1 .entry)) (now (w .entry)) (s .start) (s .end) (s .count) x0 x1 (now (lows .entry)) (now (highs .entry)) (now (lows .exit)) (now (highs .exit)) n r ⌝ }
 {
-    let m = s.count;
+    let m = s.count as usize;
     if s.start == x0 {
         if x1 == s.end {
             return gaps::gaps(h0, h1, w, m, lows, highs, n);

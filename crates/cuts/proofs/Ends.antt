@@ -20,7 +20,7 @@ pub cut-none : (v : List ℕ) (a c : ℕ) → a < c → CutAt v a 0 c
 cut-none v a c h = record { more = h; next = next-none v a c }
 
 pub cut-more : {o : List ℕ} {t a i r x y z : ℕ} → CutAt (turned o t) a i r → VertexOf o t i x y → Nearer a x r z → CutAt (turned o t) a (i + 1) z
-cut-more k v n = record { more = n .more (k .more); next = next-more (k .next) v n }
+cut-more k v n = record { more = n .more (k .more); next = next-more (k .next) (v .across) n }
 
 pub cut-end : {v : List ℕ} {a i n r : ℕ} → CutAt v a i r → i ≡ n → CutAt v a n r
 cut-end k e = record { more = k .more; next = next-end (k .next) e }

@@ -11,11 +11,11 @@ ghost use Rattle.cuts.specs.Cut.{CutAt};
 use outline::Bounds;
 
 // The slab that was looked at last, from x = start to x = end, how many edges span it, and where the next slab may end. Empty where
-// start is end.
+// start is end. Four words of 16 bits, so that one move copies it: it goes through several calls for each column.
 pub struct Section {
     pub start: u16,
     pub end: u16,
-    pub count: usize,
+    pub count: u16,
     pub cut: u16,
 }
 

@@ -40,7 +40,7 @@ fn opens(
     ensures { λ r. ⌜ (r ≡ true → HasCell (now (o .entry)) t true) ⌝ }
 {
     let s = section::held(o, b, t, 0, wide, cuts::none(), h0, h1, w);
-    apart(h0, h1, w, s.count)
+    apart(h0, h1, w, s.count as usize)
 }
 
 // Whether the slab at the left end of the outline, `wide` units wide, shows a cell.

@@ -29,7 +29,7 @@ fn next_slab(
     let mut e = to;
     let mut l = entries::load(o, b, t, a, e, h0, h1, w);
     while a + 1 < e {
-        if cuts::tidy(h0, h1, w, l.count) {
+        if cuts::tidy(h0, h1, w, l.count as usize) {
             return Section {
                 start: a,
                 end: e,

@@ -13,8 +13,11 @@ none-requires c κs = search needs
 held-requires : tie.Need-held-requires
 held-requires c κs = let p = c .before .before .before .before .before .before .before .before .pre in (p .0, (p .1 .0, (p .1 .1 .0, (p .1 .1 .1 .0, new-stock _ (p .1 .1 .1 .1 .0) (p .1 .1 .1 .1 .1) (p .1 .1 .1 .1 .2) (c .before .before .before .none .ensures .1) (c .before .before .before .none .ensures .3)))))
 
+cast-apart : tie.Need-cast-apart
+cast-apart c = search needs
+
 apart-requires : tie.Need-apart-requires
-apart-requires c κs = let p = c .before .before .before .before .before .before .before .before .before .before .before .before .before .before .before .before .before .before .pre in held-fit _ _ (p .0) (c .before .before .before .before .before .before .before .before .before .held .ensures) (c .before .before .before .before .before .before .before .before .h0 .given ∙ p .1 .1 .1 .1 .0) (c .before .before .before .before .before .before .h1 .given ∙ p .1 .1 .1 .1 .1) (c .before .before .before .before .w .given ∙ p .1 .1 .1 .1 .2)
+apart-requires c κs = let p = c .before .before .before .before .before .before .before .before .before .before .before .before .before .before .before .before .before .before .before .pre in held-fit _ _ (p .0) (c .before .before .before .before .before .before .before .before .before .before .held .ensures) (c .before .before .before .before .before .before .before .before .before .h0 .given ∙ p .1 .1 .1 .1 .0) (c .before .before .before .before .before .before .before .h1 .given ∙ p .1 .1 .1 .1 .1) (c .before .before .before .before .before .w .given ∙ p .1 .1 .1 .1 .2)
 
 same-length : tie.Need-same-length
 same-length c = search needs
@@ -26,7 +29,7 @@ same-length-3 : tie.Need-same-length-3
 same-length-3 c = search needs
 
 returns : tie.Need-returns
-returns c = λ e. let p = c .before .before .before .before .before .before .before .before .before .before .before .before .before .before .before .before .before .before .before .pre in apart-cell _ _ (p .0) (p .1 .1 .1 .0) (c .before .before .before .before .before .before .before .before .before .before .held .ensures) (c .apart .ensures e)
+returns c = λ e. let p = c .before .before .before .before .before .before .before .before .before .before .before .before .before .before .before .before .before .before .before .before .pre in apart-cell _ _ (p .0) (p .1 .1 .1 .0) (c .before .before .before .before .before .before .before .before .before .before .before .held .ensures) (c .apart .ensures e)
 
 pub opens-spec : {M : Type 1} → statement M
 opens-spec =
@@ -34,6 +37,7 @@ opens-spec =
     (tie.spec
     none-requires
     held-requires
+    cast-apart
     apart-requires
     same-length
     same-length-2

@@ -34,20 +34,23 @@ loop-holds c =
 add-loop : tie.Need-add-loop Inv-loop μ-loop
 add-loop c = search needs
 
+cast-tidy : tie.Need-cast-tidy Inv-loop μ-loop
+cast-tidy c = search needs
+
 tidy-requires : tie.Need-tidy-requires Inv-loop μ-loop
-tidy-requires c κs = let i = c .before .before .before .before .loop .inv in all-fit (i .4 .loaded) (c .before .before .before .before .before .before .before .before .before .before .before .before .before .before .before .before .before .before .before .pre .0 .few) (i .0) (i .1) (i .2)
+tidy-requires c κs = let i = c .before .before .before .before .before .loop .inv in all-fit (i .4 .loaded) (c .before .before .before .before .before .before .before .before .before .before .before .before .before .before .before .before .before .before .before .before .pre .0 .few) (i .0) (i .1) (i .2)
 
 same-length : tie.Need-same-length Inv-loop μ-loop
-same-length c = omega (arith, c .before .before .before .before .before .before .loop .inv .0, c .before .before .before .before .before .before .before .before .before .before .before .before .before .before .before .before .before .before .before .before .before .pre .1 .1 .1 .1 .1)
+same-length c = omega (arith, c .before .before .before .before .before .before .before .loop .inv .0, c .before .before .before .before .before .before .before .before .before .before .before .before .before .before .before .before .before .before .before .before .before .before .pre .1 .1 .1 .1 .1)
 
 same-length-2 : tie.Need-same-length-2 Inv-loop μ-loop
-same-length-2 c = omega (arith, c .before .before .before .before .before .before .loop .inv .1, c .before .before .before .before .before .before .before .before .before .before .before .before .before .before .before .before .before .before .before .before .before .pre .1 .1 .1 .1 .2)
+same-length-2 c = omega (arith, c .before .before .before .before .before .before .before .loop .inv .1, c .before .before .before .before .before .before .before .before .before .before .before .before .before .before .before .before .before .before .before .before .before .before .pre .1 .1 .1 .1 .2)
 
 same-length-3 : tie.Need-same-length-3 Inv-loop μ-loop
-same-length-3 c = omega (arith, c .before .before .before .before .before .before .loop .inv .2, c .before .before .before .before .before .before .before .before .before .before .before .before .before .before .before .before .before .before .before .before .before .pre .1 .1 .1 .1 .3)
+same-length-3 c = omega (arith, c .before .before .before .before .before .before .before .loop .inv .2, c .before .before .before .before .before .before .before .before .before .before .before .before .before .before .before .before .before .before .before .before .before .before .pre .1 .1 .1 .1 .3)
 
 returns : tie.Need-returns Inv-loop μ-loop
-returns c = held-tidy _ _ (c .before .before .before .before .before .before .loop .inv .3) (c .before .before .before .before .before .before .loop .inv .4) (c .before .tidy .ensures (c .if1 .taken))
+returns c = held-tidy _ _ (c .before .before .before .before .before .before .before .loop .inv .3) (c .before .before .before .before .before .before .before .loop .inv .4) (c .before .tidy .ensures (c .if1 .taken))
 
 sub-e : tie.Need-sub-e Inv-loop μ-loop
 sub-e c = search needs
@@ -57,8 +60,8 @@ add-e c = search needs
 
 load-requires-2 : tie.Need-load-requires-2 Inv-loop μ-loop
 load-requires-2 c κs =
-    let p = c .before .before .before .before .before .before .before .before .before .before .before .before .before .before .before .before .before .before .before .before .before .before .before .before .pre in
-    let i = c .before .before .before .before .before .before .before .before .before .loop .inv in
+    let p = c .before .before .before .before .before .before .before .before .before .before .before .before .before .before .before .before .before .before .before .before .before .before .before .before .before .pre in
+    let i = c .before .before .before .before .before .before .before .before .before .before .loop .inv in
     (p .0, (p .1 .0, (p .1 .1 .1 .1 .0, cut-spanned (cut-turned _ _ (cut-shorter (i .3) (omega arith) (omega arith))) (i .0) (i .1) (i .2))))
 
 loop-less : tie.Need-loop-less Inv-loop μ-loop
@@ -66,7 +69,7 @@ loop-less c = search needs
 
 loop-again : tie.Need-loop-again Inv-loop μ-loop
 loop-again c =
-    let i = c .before .before .before .before .before .before .before .before .before .before .before .before .before .before .before .before .loop .inv in
+    let i = c .before .before .before .before .before .before .before .before .before .before .before .before .before .before .before .before .before .loop .inv in
     (omega (arith, i .0), omega (arith, i .1), omega (arith, i .2), cut-shorter (i .3) (omega arith) (omega arith), c .before .before .before .before .before .before .load2 .ensures, omega (arith, i .5))
 
 same-length-4 : tie.Need-same-length-4 Inv-loop μ-loop
@@ -90,6 +93,7 @@ next-slab-spec =
     load-requires
     loop-holds
     add-loop
+    cast-tidy
     tidy-requires
     same-length
     same-length-2
