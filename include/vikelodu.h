@@ -5,8 +5,20 @@
  * column, then lowest, then in the least turn; a program may also see that position before the piece is laid, and lay the piece
  * there or at another free position. A strip may have a gap, which is kept between its pieces. A job sheet carries the figures of a
  * strip and a cut list of pieces as bytes; a list is read from it and written to it, and a whole job is laid from it in one call. An
- * outline is also read from a path of a drawing program and written as one. Every call answers one number of 64 bits and says in it
- * what became of the call: granted, or refused with the number of the question that got "no".
+ * outline is also read from a path of a drawing program and written as one. Every call says what became of it: granted, or refused
+ * with the number of the question that got "no".
+ *
+ * Answers
+ *
+ * An answer is one number of 64 bits, made in the same way for every call:
+ *
+ *   bits 0 to 15   the number: 0 where the call is granted, else that of the question
+ *   the others     granted, the call's values: 16 bits each, or one of 32 bits in the high half;
+ *                  refused, the ordinal in bits 16 to 31; bits 32 to 47 are kept for a second number beside it, and 0 so far
+ *
+ * The functions at the end of this header take an answer apart. What a call tells in every case, granted or refused, stands beside the
+ * answer, in a struct that is returned by value: vikelodu_place and vikelodu_ask have their tries there. So nothing more is lent, and
+ * a program that takes the struct for an answer does not compile. All other calls return the answer alone.
  *
  * Words and buffers
  *
@@ -50,17 +62,22 @@
 #include <stdint.h>
 
 /*
- * The edition of this header. A call whose arguments have changed has another name in the library, so that a program compiled against
- * an older header does not link; compiled against this one it calls it by the name it had. Edition 4 has the gap as an argument more
- * in these five. The calls that place, ask and commit have kept their names: a strip of the older form, with four leading words, has
- * another length than one of this form with as many columns, for any number of records, and gets 5.
+ * The edition of this header. A call that takes or returns something else than before has another name in the library, so that a
+ * program compiled against an older header does not link; compiled against this one it calls it by the name it had. Edition 4 has the
+ * gap as an argument more in the calls that open, cover and lay, edition 5 the tries beside the answer in those that place and ask. The
+ * calls that commit have kept their names: a strip of the older form, with four leading words, has another length than one of this form
+ * with as many columns, for any number of records, and gets 5.
  */
-#define VIKELODU_EDITION 4
+#define VIKELODU_EDITION 5
 #define vikelodu_open vikelodu_open_4
 #define vikelodu_cover vikelodu_cover_4
 #define vikelodu_lay vikelodu_lay_4
 #define vikelodu_open_bytes vikelodu_open_bytes_4
 #define vikelodu_lay_bytes vikelodu_lay_bytes_4
+#define vikelodu_place vikelodu_place_5
+#define vikelodu_ask vikelodu_ask_5
+#define vikelodu_place_bytes vikelodu_place_bytes_5
+#define vikelodu_ask_bytes vikelodu_ask_bytes_5
 
 #ifdef __cplusplus
 extern "C" {
@@ -79,7 +96,7 @@ enum vikelodu_number {
     /* The strip has not 5 + columns + 4 * records words for any number of records from 1 to 16,000. Answered by vikelodu_open and
        vikelodu_lay. */
     VIKELODU_STRIP_LENGTH = 4,
-    /* The strip is not well formed: it was not opened, or not by a library of this edition; it has another length than it was
+    /* The strip is not well formed: it was not opened, or by a library before edition 4; it has another length than it was
        opened with; or its words were changed so that they are no strip any more, the gap to over 400 too. */
     VIKELODU_ILL_FORMED = 5,
     /* The sheet's piece chain leaves 1 to P or does not end within 200 pieces; the list has no count word, or one above 200. */
@@ -121,6 +138,12 @@ enum vikelodu_number {
        vikelodu_lay. */
     VIKELODU_GAP = 21
 };
+
+/* What vikelodu_place, vikelodu_ask and their calls on bytes return: the answer, and how much looking was done for it. */
+typedef struct {
+    uint64_t answer;
+    uint32_t tries;
+} vikelodu_tried;
 
 /* The words of a strip: five leading words, one for each column, four for each record. A record holds one run; what the pieces need
    depends on their form and on how their runs join. */
@@ -182,11 +205,25 @@ uint64_t vikelodu_open(uint16_t width, uint16_t resolution, uint16_t columns, ui
  * Refused with 5, ordinal 0, or with 7 to 14, ordinal 1. Granted, the answer has the turn, the column and the height: the turned
  * outline lies column * resolution units to the right and height units up.
  *
+ * The tries say how much looking was done, which is the cost of a resolution. Each allowed turn is walked column by column, as far as
+ * the outline is on the strip, up to its first free position, also where another turn wins. In each column height 0 is tried first.
+ * Where the piece clashes, its first run that does counts, by column and then low, with the lowest run on the strip that it meets; the
+ * next height is that run's high less the low of the piece's run. A height at which the outline is past the strip's top, even height 0,
+ * is no try and ends its column. The heights tried in all allowed turns are the tries, where the call is granted and where it is
+ * refused with 13 or 14; where it is refused with another number they are 0.
+ *
+ *   vikelodu_tried laid = vikelodu_place(strip, strip_words, outline, outline_words, mask, work, work_words);
+ *   if (vikelodu_number(laid.answer) == VIKELODU_GRANTED)
+ *       printf("column %d, after %lu tries\n", vikelodu_column(laid.answer), (unsigned long)laid.tries);
+ *
+ * They are at most the pairs of a turn and a column in which a height was tried, times 1 + p * q, where p is the runs of the allowed
+ * turn that has most, as for the work buffer, and q the runs on the strip before the call.
+ *
  * Where the size of the work buffer is not known, lend what can be spared; 9,000 words are enough for 3,000 runs. On a strip with no
  * gap a piece has no more than 32 runs in each unit of its width; with a gap it has runs in the columns that the gap reaches, too.
  */
-uint64_t vikelodu_place(uint16_t *strip, size_t strip_words, const uint16_t *outline, size_t outline_words, uint16_t mask,
-                        uint16_t *work, size_t work_words);
+vikelodu_tried vikelodu_place(uint16_t *strip, size_t strip_words, const uint16_t *outline, size_t outline_words, uint16_t mask,
+                              uint16_t *work, size_t work_words);
 
 /*
  * Looks where vikelodu_place would lay a piece, and lays nothing.
@@ -195,14 +232,14 @@ uint64_t vikelodu_place(uint16_t *strip, size_t strip_words, const uint16_t *out
  *   outline, mask, work   as in vikelodu_place; all words of work are 0 after the call
  *
  * The answer is that of vikelodu_place with the same arguments: refused with 5, ordinal 0, or with 7 to 14, ordinal 1; granted, it
- * has the turn, the column and the height. The spot in millimetres, with the strip's resolution:
+ * has the turn, the column and the height. So are the tries. The spot in millimetres, with the strip's resolution:
  *
- *   uint64_t spot = vikelodu_ask(strip, strip_words, outline, outline_words, mask, work, work_words);
+ *   uint64_t spot = vikelodu_ask(strip, strip_words, outline, outline_words, mask, work, work_words).answer;
  *   if (vikelodu_number(spot) == VIKELODU_GRANTED)
  *       printf("%.3f mm to the right, %.3f mm up\n", vikelodu_column(spot) * resolution / 8.0, vikelodu_height(spot) / 8.0);
  */
-uint64_t vikelodu_ask(const uint16_t *strip, size_t strip_words, const uint16_t *outline, size_t outline_words, uint16_t mask,
-                      uint16_t *work, size_t work_words);
+vikelodu_tried vikelodu_ask(const uint16_t *strip, size_t strip_words, const uint16_t *outline, size_t outline_words, uint16_t mask,
+                            uint16_t *work, size_t work_words);
 
 /*
  * Lays one piece at a given position, if that is on the strip and free. It need not be the best one.
@@ -213,7 +250,7 @@ uint64_t vikelodu_ask(const uint16_t *strip, size_t strip_words, const uint16_t 
  *   work             at least three words for each run of the outline in this turn; all words are 0 after the call
  *
  * Refused with 5, ordinal 0; with 7 to 12, ordinal 1, asked of the turn alone (9 where the turn is above 3); with 18, ordinal 0; or
- * with 14, ordinal 1. Never with 13. Granted, the answer is 0.
+ * with 14, ordinal 1. Never with 13. Granted, the answer is 0. Nothing is looked for, so there are no tries.
  *
  *   uint64_t answer = vikelodu_commit(strip, strip_words, outline, outline_words, vikelodu_turn(spot), vikelodu_column(spot),
  *                                     vikelodu_height(spot), work, work_words);
@@ -311,7 +348,8 @@ uint64_t vikelodu_write(uint16_t width, uint16_t resolution, uint16_t columns, c
  *   a piece that is refused   12, 13 or 14, and three times 0
  *
  * The strip is well formed and has the runs that vikelodu_open and then vikelodu_place with each of the pieces would have made;
- * vikelodu_place and vikelodu_commit can lay more pieces on it. All words of the work buffer are 0.
+ * vikelodu_place and vikelodu_commit can lay more pieces on it. All words of the work buffer are 0. No tries are told: they are those
+ * of vikelodu_place, which a program that wants them calls for each piece.
  */
 uint64_t vikelodu_lay(const uint8_t *sheet, size_t sheet_bytes, uint16_t gap, uint16_t *strip, size_t strip_words, uint16_t *output,
                       size_t output_words, uint16_t *work, size_t work_words);
@@ -360,7 +398,7 @@ uint64_t vikelodu_retrace(const uint16_t *outline, size_t outline_words);
  *   if (vikelodu_number(answer) == VIKELODU_PATH_COORDINATE)
  *       printf("a coordinate is no multiple of 0.125 mm from 0 to 2000 mm\n");
  *   if (vikelodu_number(answer) == VIKELODU_GRANTED)
- *       spot = vikelodu_place(strip, strip_words, outline, vikelodu_words(answer), mask, work, work_words);
+ *       laid = vikelodu_place(strip, strip_words, outline, vikelodu_words(answer), mask, work, work_words);
  */
 uint64_t vikelodu_read_path(const uint8_t *path, size_t path_bytes, uint16_t *output, size_t output_words);
 
@@ -382,9 +420,9 @@ uint64_t vikelodu_read_path(const uint8_t *path, size_t path_bytes, uint16_t *ou
 uint64_t vikelodu_write_path(const uint16_t *outline, size_t outline_words, uint8_t *output, size_t output_bytes);
 
 /*
- * vikelodu_open, vikelodu_place, vikelodu_ask, vikelodu_commit and vikelodu_lay on buffers of bytes: the same answers, and the same
- * words left in each buffer, as of the calls on words that have the buffers' words. A buffer may stand at any address, an odd one
- * too. Of a work buffer at most 1,536,000 words are used: 12 is asked of these, and all of its words are 0 after the call. With no
+ * vikelodu_open, vikelodu_place, vikelodu_ask, vikelodu_commit and vikelodu_lay on buffers of bytes: the same answers and tries, and
+ * the same words left in each buffer, as of the calls on words that have the buffers' words. A buffer may stand at any address, an odd
+ * one too. Of a work buffer at most 1,536,000 words are used: 12 is asked of these, and all of its words are 0 after the call. With no
  * gap that many are always enough.
  *
  *   uint8_t strip[2 * VIKELODU_STRIP_WORDS(10, 6)];
@@ -397,10 +435,10 @@ uint64_t vikelodu_write_path(const uint16_t *outline, size_t outline_words, uint
  */
 uint64_t vikelodu_open_bytes(uint16_t width, uint16_t resolution, uint16_t columns, uint16_t gap, uint8_t *strip,
                              size_t strip_bytes);
-uint64_t vikelodu_place_bytes(uint8_t *strip, size_t strip_bytes, const uint8_t *outline, size_t outline_bytes, uint16_t mask,
-                              uint8_t *work, size_t work_bytes);
-uint64_t vikelodu_ask_bytes(const uint8_t *strip, size_t strip_bytes, const uint8_t *outline, size_t outline_bytes, uint16_t mask,
-                            uint8_t *work, size_t work_bytes);
+vikelodu_tried vikelodu_place_bytes(uint8_t *strip, size_t strip_bytes, const uint8_t *outline, size_t outline_bytes, uint16_t mask,
+                                    uint8_t *work, size_t work_bytes);
+vikelodu_tried vikelodu_ask_bytes(const uint8_t *strip, size_t strip_bytes, const uint8_t *outline, size_t outline_bytes,
+                                  uint16_t mask, uint8_t *work, size_t work_bytes);
 uint64_t vikelodu_commit_bytes(uint8_t *strip, size_t strip_bytes, const uint8_t *outline, size_t outline_bytes, uint16_t turn,
                                uint16_t column, uint16_t height, uint8_t *work, size_t work_bytes);
 uint64_t vikelodu_lay_bytes(const uint8_t *sheet, size_t sheet_bytes, uint16_t gap, uint8_t *strip, size_t strip_bytes,

@@ -104,27 +104,42 @@ static struct wish committing(uint16_t turn, uint16_t column, uint16_t height) {
     return (struct wish){COMMITTING, turn, column, height};
 }
 
-static uint64_t call(struct wish of, struct buffer strip, struct buffer outline, struct buffer work) {
+/* A commit has no tries. */
+static vikelodu_tried call(struct wish of, struct buffer strip, struct buffer outline, struct buffer work) {
     switch (of.call) {
     case PLACING:
         return vikelodu_place(strip.words, strip.count, outline.words, outline.count, of.turns, work.words, work.count);
     case ASKING:
         return vikelodu_ask(strip.words, strip.count, outline.words, outline.count, of.turns, work.words, work.count);
     default:
-        return vikelodu_commit(strip.words, strip.count, outline.words, outline.count, of.turns, of.column, of.height,
-                               work.words, work.count);
+        return (vikelodu_tried){vikelodu_commit(strip.words, strip.count, outline.words, outline.count, of.turns, of.column,
+                                                of.height, work.words, work.count),
+                                0};
     }
 }
 
+/* The tries of a call with this answer: some where it is granted or gets 14, none where a question before 13 refuses. With 13
+   there may be none, where no height can be tried. */
+static void expect_tries(const char *what, struct wish of, vikelodu_tried got) {
+    uint16_t number = vikelodu_number(got.answer);
+    if (of.call == COMMITTING || number == VIKELODU_NO_POSITION) {
+        return;
+    }
+    int looked = number == VIKELODU_GRANTED || number == VIKELODU_RECORDS;
+    expect(what, got.tries > 0, looked);
+}
+
 /* The call with a work buffer of so many words: the answer, the work buffer zero, and the strip unchanged where the call is
-   refused or an ask. */
-static void lend(const char *what, struct wish of, struct buffer strip, const uint16_t *outline, size_t outline_words,
-                 size_t work_words, uint64_t wanted) {
+   refused or an ask. The tries, of place and ask. */
+static uint32_t lend(const char *what, struct wish of, struct buffer strip, const uint16_t *outline, size_t outline_words,
+                     size_t work_words, uint64_t wanted) {
     struct buffer before = copy(strip);
     struct buffer lent = make(outline_words);
     struct buffer work = make(work_words);
     memcpy(lent.words, outline, 2 * outline_words);
-    expect(what, call(of, strip, lent, work), wanted);
+    vikelodu_tried got = call(of, strip, lent, work);
+    expect(what, got.answer, wanted);
+    expect_tries(what, of, got);
     if (vikelodu_number(wanted) != VIKELODU_GRANTED || of.call == ASKING) {
         expect_same(what, strip, before);
     }
@@ -138,6 +153,7 @@ static void lend(const char *what, struct wish of, struct buffer strip, const ui
     drop(before);
     drop(lent);
     drop(work);
+    return got.tries;
 }
 
 #define PLACE(what, strip, outline, mask, work_words, wanted) \
@@ -339,6 +355,73 @@ static void test_no_room(void) {
     drop(strip);
 }
 
+/* ------------------------------------------------------------------- tries */
+
+/* The tries of an ask and then a place with these arguments, which have the same answer. */
+static void tried(const char *what, struct buffer strip, const uint16_t *outline, size_t outline_words, uint16_t mask,
+                  size_t work_words, uint64_t wanted, uint32_t tries) {
+    expect(what, lend(what, asking(mask), strip, outline, outline_words, work_words, wanted), tries);
+    expect(what, lend(what, placing(mask), strip, outline, outline_words, work_words, wanted), tries);
+}
+
+#define TRIED(what, strip, outline, mask, work_words, wanted, tries) \
+    tried(what, strip, outline, WORDS(outline), mask, work_words, wanted, tries)
+
+static void test_tries(void) {
+    /* A height past the top is no try, so the third square has one in each of the columns 0 to 2; so it is where 14 refuses it. */
+    for (size_t records = 3; records <= 4; records++) {
+        struct buffer strip = opened(10, 2, 10, records);
+        TRIED("first square", strip, square, 1, 6, placed(0, 0, 0), 1);
+        TRIED("second square", strip, square, 1, 6, placed(0, 0, 4), 2);
+        TRIED("third square", strip, square, 1, 6, records == 3 ? refused(VIKELODU_RECORDS, 1) : placed(0, 2, 0), 3);
+        /* Before 13 nothing is tried. */
+        TRIED("mask 0", strip, square, 0, 6, refused(VIKELODU_TURN, 1), 0);
+        TRIED("a work buffer short by a word", strip, square, 1, 5, refused(VIKELODU_BUFFER, 1), 0);
+        strip.words[GAP] = 401;
+        TRIED("a strip that is none", strip, square, 1, 6, refused(VIKELODU_ILL_FORMED, 0), 0);
+        drop(strip);
+    }
+
+    /* With a gap of 1 the first two take a column more. With a gap of 3 the first one's cells fill this strip and go past its end. */
+    struct buffer strip = opened_with_gap(10, 2, 10, 1, 40);
+    TRIED("first square with a gap", strip, square, 1, 9, placed(0, 0, 0), 1);
+    TRIED("second square with a gap", strip, square, 1, 9, placed(0, 0, 5), 2);
+    TRIED("third square with a gap", strip, square, 1, 9, placed(0, 3, 0), 4);
+    drop(strip);
+    strip = opened_with_gap(4, 2, 4, 3, 40);
+    TRIED("a square that fills the strip", strip, square, 1, 12, placed(0, 0, 0), 1);
+    TRIED("no position, after three tries", strip, square, 1, 12, refused(VIKELODU_NO_POSITION, 1), 3);
+    drop(strip);
+
+    /* All allowed turns are walked, also the one that loses; in a turn that is too high at height 0 nothing is tried. */
+    strip = opened(6, 2, 10, 20);
+    TRIED("a bar", strip, six_by_two, 3, 30, placed(1, 0, 0), 2);
+    TRIED("a bar beside it", strip, six_by_two, 3, 30, placed(1, 1, 0), 4);
+    drop(strip);
+    strip = opened(4, 2, 10, 20);
+    TRIED("a bar too long for one turn", strip, six_by_two, 3, 30, placed(0, 0, 0), 1);
+    drop(strip);
+    strip = opened(1, 2, 10, 20);
+    TRIED("a bar too long for both", strip, six_by_two, 3, 30, refused(VIKELODU_NO_POSITION, 1), 0);
+    drop(strip);
+
+    /* In turn 1 the triangle's columns are 1 to 3 and 0 to 3. Over 0 to 2 and 1 to 2 the first goes to 2 less its own low, which is 1,
+       and the second from there to 2. */
+    static const uint16_t step[] = {0, 0, 1, 0, 1, 1, 2, 1, 2, 2, 0, 2};
+    strip = opened(9, 1, 2, 6);
+    TRIED("a step", strip, step, 1, 6, placed(0, 0, 0), 1);
+    TRIED("a triangle over it", strip, t, 2, 6, placed(1, 0, 2), 3);
+    drop(strip);
+
+    /* The square meets two bars, and goes onto the lower one first. */
+    static const uint16_t bar[] = {0, 0, 4, 0, 4, 1, 0, 1};
+    strip = opened(9, 2, 2, 6);
+    COMMIT("a bar", strip, bar, 0, 0, 0, 6, 0);
+    COMMIT("a bar over it", strip, bar, 0, 0, 2, 6, 0);
+    TRIED("a square over both", strip, square, 1, 6, placed(0, 0, 3), 3);
+    drop(strip);
+}
+
 /* ----------------------------------------------------------- ask and commit */
 
 /* Three squares by ask and then commit go where place puts them and leave its runs; an ask may come twice. */
@@ -363,7 +446,9 @@ static void test_ask_on_constant_words(void) {
     static const uint16_t strip[] = {4, 2, 2, 1, 0, 0, 0, 2, 0, 0, 2, 2, 0, 0, 0};
     uint16_t work[6];
     expect("words", WORDS(strip), VIKELODU_STRIP_WORDS(2, 2));
-    expect("ask", vikelodu_ask(strip, WORDS(strip), square, WORDS(square), 15, work, WORDS(work)), placed(0, 0, 0));
+    vikelodu_tried asked = vikelodu_ask(strip, WORDS(strip), square, WORDS(square), 15, work, WORDS(work));
+    expect("ask", asked.answer, placed(0, 0, 0));
+    expect("one try in each turn", asked.tries, 4);
 }
 
 /* A commit need not be at the best position; places and commits after it go around it. */
@@ -578,9 +663,10 @@ static void test_bytes(void) {
     outline[sizeof square] = 0xEE;
     expect("open on bytes", vikelodu_open(300, 2, 10, 0, (uint16_t *)strip, STRIP_BYTES / 2), 0);
     expect("width, low byte first", strip[0] == (300 & 0xFF) && strip[1] == 300 >> 8, 1);
-    uint64_t answer = vikelodu_place((uint16_t *)strip, STRIP_BYTES / 2, (uint16_t *)outline, (sizeof square + 1) / 2, 1,
-                                     (uint16_t *)work, WORK_BYTES / 2);
-    expect("place on bytes", answer, placed(0, 0, 0));
+    vikelodu_tried laid = vikelodu_place((uint16_t *)strip, STRIP_BYTES / 2, (uint16_t *)outline, (sizeof square + 1) / 2, 1,
+                                         (uint16_t *)work, WORK_BYTES / 2);
+    expect("place on bytes", laid.answer, placed(0, 0, 0));
+    expect("tries on bytes", laid.tries, 1);
     for (size_t i = 0; i < WORK_BYTES - 1; i++) {
         expect("work byte", work[i], 0);
     }
@@ -1219,15 +1305,16 @@ static void expect_cleared(const char *what, struct bytes of) {
     expect_fences_of_bytes(what, of);
 }
 
-static uint64_t call_on_bytes(struct wish of, struct bytes strip, struct bytes outline, struct bytes work) {
+static vikelodu_tried call_on_bytes(struct wish of, struct bytes strip, struct bytes outline, struct bytes work) {
     switch (of.call) {
     case PLACING:
         return vikelodu_place_bytes(strip.at, strip.count, outline.at, outline.count, of.turns, work.at, work.count);
     case ASKING:
         return vikelodu_ask_bytes(strip.at, strip.count, outline.at, outline.count, of.turns, work.at, work.count);
     default:
-        return vikelodu_commit_bytes(strip.at, strip.count, outline.at, outline.count, of.turns, of.column, of.height, work.at,
-                                     work.count);
+        return (vikelodu_tried){vikelodu_commit_bytes(strip.at, strip.count, outline.at, outline.count, of.turns, of.column,
+                                                      of.height, work.at, work.count),
+                                0};
     }
 }
 
@@ -1237,13 +1324,15 @@ struct both {
     struct bytes bytes;
 };
 
-/* The call on words and on bytes of the same strip: the same answer, and the same words after it. */
+/* The call on words and on bytes of the same strip: the same answer and tries, and the same words after it. */
 static void lend_both(const char *what, struct wish of, struct both strip, const uint16_t *outline, size_t outline_words,
                       size_t work_words, uint64_t wanted) {
     struct bytes lent = bytes_of(outline, outline_words), before = bytes_of(outline, outline_words);
     struct bytes work = make_bytes(2 * work_words + 1);
-    lend(what, of, strip.words, outline, outline_words, work_words, wanted);
-    expect(what, call_on_bytes(of, strip.bytes, lent, work), wanted);
+    uint32_t tries = lend(what, of, strip.words, outline, outline_words, work_words, wanted);
+    vikelodu_tried got = call_on_bytes(of, strip.bytes, lent, work);
+    expect(what, got.answer, wanted);
+    expect(what, got.tries, tries);
     expect_words(what, strip.bytes, strip.words);
     expect_bytes(what, lent, before.at);
     expect_fences_of_bytes("around the outline", lent);
@@ -1451,6 +1540,7 @@ int main(void) {
     test_ill_formed_strips();
     test_refused_outlines();
     test_no_room();
+    test_tries();
     test_ask_then_commit();
     test_ask_on_constant_words();
     test_commit_elsewhere();

@@ -54,7 +54,7 @@ static int place(const uint16_t *outline, size_t words) {
     static uint16_t strip[VIKELODU_STRIP_WORDS(COLUMNS, RECORDS)], work[600];
     uint64_t answer = vikelodu_open(WIDTH, RESOLUTION, COLUMNS, GAP, strip, sizeof strip / 2);
     if (vikelodu_number(answer) == VIKELODU_GRANTED) {
-        answer = vikelodu_place(strip, sizeof strip / 2, outline, words, 15, work, sizeof work / 2);
+        answer = vikelodu_place(strip, sizeof strip / 2, outline, words, 15, work, sizeof work / 2).answer;
     }
     if (vikelodu_number(answer) != VIKELODU_GRANTED) {
         printf("refused %d\n", vikelodu_number(answer));

@@ -1,5 +1,5 @@
-/* Squares of 4 by 4 units on a strip 10 units high, in columns of 2 units: three one by one, three as a job, and two more that
-   are shown before they are laid. */
+/* Squares of 4 by 4 units on a strip 10 units high, in columns of 2 units: three one by one, with the tries that each took, three as
+   a job, and two more that are shown before they are laid. */
 #include "vikelodu.h"
 
 #include <stdio.h>
@@ -20,12 +20,14 @@ static int one_by_one(void) {
         return 1;
     }
     for (int piece = 1; piece <= 3; piece++) {
-        answer = vikelodu_place(strip, sizeof strip / 2, square, sizeof square / 2, mask, work, sizeof work / 2);
+        vikelodu_tried laid = vikelodu_place(strip, sizeof strip / 2, square, sizeof square / 2, mask, work, sizeof work / 2);
+        answer = laid.answer;
         if (vikelodu_number(answer) == VIKELODU_GRANTED) {
-            printf("%d placed %d %d %d\n", piece, vikelodu_turn(answer), vikelodu_column(answer), vikelodu_height(answer));
+            printf("%d placed %d %d %d", piece, vikelodu_turn(answer), vikelodu_column(answer), vikelodu_height(answer));
         } else {
-            printf("%d refused %d\n", piece, vikelodu_number(answer));
+            printf("%d refused %d", piece, vikelodu_number(answer));
         }
+        printf(", tries %d\n", (int)laid.tries);
     }
     return 0;
 }
@@ -61,7 +63,7 @@ static int as_a_job(void) {
 /* Two more on the strip as the job left it. A unit is 1/8 mm. */
 static int look_first(void) {
     for (int piece = 4; piece <= 5; piece++) {
-        uint64_t spot = vikelodu_ask(strip, sizeof strip / 2, square, sizeof square / 2, mask, work, sizeof work / 2);
+        uint64_t spot = vikelodu_ask(strip, sizeof strip / 2, square, sizeof square / 2, mask, work, sizeof work / 2).answer;
         if (vikelodu_number(spot) != VIKELODU_GRANTED) {
             printf("%d refused %d\n", piece, vikelodu_number(spot));
             return 1;

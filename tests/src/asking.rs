@@ -10,17 +10,13 @@ use crate::questions::turns_of_turn;
 use crate::strip::put_runs;
 
 /// "Ask answers the position that place would give, or its number, and changes no
-/// strip word."
-pub fn ask(
-    strip: &[u16],
-    outline: &[u16],
-    mask: u16,
-    work: &mut [u16],
-) -> Result<Position, Refusal> {
+/// strip word." By S-5 it reports its tries as place does.
+pub fn ask(strip: &[u16], outline: &[u16], mask: u16, work: &mut [u16]) -> Tried {
     // "A work buffer is zero after each call."
     work.fill(0);
-    let (position, _) = find(strip, outline, mask, work.len())?;
-    Ok(position)
+    let (found, tries) = find(strip, outline, mask, work.len());
+    let answer = found.map(|(position, _)| position);
+    Tried { answer, tries }
 }
 
 /// "A position is turn, column c, height y, c and y at least 0, with c + w/R

@@ -8,7 +8,7 @@
 //!
 //! A sheet is bytes by its own definition, so every byte of it counts.
 
-use crate::figures::{Position, Refusal, Totals};
+use crate::figures::{Position, Refusal, Totals, Tried};
 
 fn words(bytes: &[u8]) -> Vec<u16> {
     bytes
@@ -30,29 +30,19 @@ pub fn open_bytes(w: u16, r: u16, n: u16, g: u16, strip: &mut [u8]) -> Result<()
     answer
 }
 
-pub fn place_bytes(
-    strip: &mut [u8],
-    outline: &[u8],
-    mask: u16,
-    work: &mut [u8],
-) -> Result<Position, Refusal> {
+pub fn place_bytes(strip: &mut [u8], outline: &[u8], mask: u16, work: &mut [u8]) -> Tried {
     let (mut strip_words, mut work_words) = (words(strip), words(work));
-    let answer = crate::place(&mut strip_words, &words(outline), mask, &mut work_words);
+    let tried = crate::place(&mut strip_words, &words(outline), mask, &mut work_words);
     put_back(strip, &strip_words);
     put_back(work, &work_words);
-    answer
+    tried
 }
 
-pub fn ask_bytes(
-    strip: &[u8],
-    outline: &[u8],
-    mask: u16,
-    work: &mut [u8],
-) -> Result<Position, Refusal> {
+pub fn ask_bytes(strip: &[u8], outline: &[u8], mask: u16, work: &mut [u8]) -> Tried {
     let mut work_words = words(work);
-    let answer = crate::ask(&words(strip), &words(outline), mask, &mut work_words);
+    let tried = crate::ask(&words(strip), &words(outline), mask, &mut work_words);
     put_back(work, &work_words);
-    answer
+    tried
 }
 
 pub fn commit_bytes(

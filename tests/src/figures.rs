@@ -49,6 +49,14 @@ pub struct Position {
     pub height: u16,
 }
 
+/// S-5: "Ask and place report the tries made over all allowed turns", granted or
+/// refused.
+#[derive(Clone, Copy, Debug, PartialEq, Eq)]
+pub struct Tried {
+    pub answer: Result<Position, Refusal>,
+    pub tries: u32,
+}
+
 /// A sheet's W, R and N.
 #[derive(Clone, Copy, Debug, PartialEq, Eq)]
 pub struct Figures {

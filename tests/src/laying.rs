@@ -41,7 +41,7 @@ pub fn lay(
     open(width, resolution, columns, g, strip)?;
     let mut totals = Totals { placed: 0, used: 0 };
     for (piece, entry) in pieces.iter().zip(output.chunks_exact_mut(ENTRY)) {
-        match place(strip, &piece.outline, piece.mask, work) {
+        match place(strip, &piece.outline, piece.mask, work).answer {
             Ok(position) => {
                 entry.copy_from_slice(&[0, position.turn, position.column, position.height]);
                 totals.placed += 1;

@@ -1,12 +1,12 @@
 //! A reference program for document 01, the box-board nesting engine, as change
-//! requests S-1 to S-4 have changed it.
+//! requests S-1 to S-5 have changed it.
 //!
 //! It is written straight from the sentences of the two papers, which are quoted
 //! above the functions that state them, and it prefers the plain way to the
 //! quick one. All arithmetic is exact: whole numbers and products of whole
-//! numbers. Two places have a quicker form beside the plain one, the cells an
-//! outline covers ([`cells`]) and the search for a position ([`placing`]); the
-//! tests compare the two forms.
+//! numbers. Three places have a quicker form beside the plain one, the cells an
+//! outline covers ([`cells`]), the search for a position and the walk whose tries
+//! are counted ([`placing`]); the tests compare the two forms.
 //!
 //! Modules [`text`], [`picture`] and [`retrace`] are not of the papers: they say
 //! what programs `sheet`, `show` and `draw` print, and what an outline draws twice.
@@ -33,7 +33,7 @@ pub mod text;
 
 pub use asking::{ask, commit};
 pub use cells::{cover, runs};
-pub use figures::{Figures, Piece, Position, Refusal, Totals};
+pub use figures::{Figures, Piece, Position, Refusal, Totals, Tried};
 pub use laying::{lay, lay_text};
 pub use path::{read_path, write_path};
 pub use placing::place;

@@ -144,6 +144,87 @@ fn least_height(board: &Board, piece: &TurnedPiece, c: i64) -> Option<i64> {
     None
 }
 
+// --------------------------------------------------------------------- tries
+
+/// The next height after a clash, or nothing where the position is free.
+pub type NextHeight = fn(&Board, &TurnedPiece, Spot) -> Option<i64>;
+
+/// S-5: "After a clash, take the piece's first clashing run by column and then low,
+/// with the lowest occupied run that it meets. The next height is that occupied run's
+/// high less the piece run's low."
+///
+/// Cell by cell: the lowest occupied cell that a run meets is one of the lowest
+/// occupied run, and that ends below the first cell above which is not occupied.
+pub fn next_height_plain(board: &Board, piece: &TurnedPiece, (c, y): Spot) -> Option<i64> {
+    assert!(piece.runs.is_sorted(), "by column and then low");
+    piece.runs.iter().find_map(|&(column, low, high)| {
+        let occupied = |row: i64| {
+            let on_strip = c + column < board.n && row < board.w;
+            on_strip && is_occupied(board, c + column, row)
+        };
+        let met = (y + low..y + high).find(|&row| occupied(row))?;
+        let end = (met..=board.w).find(|&row| !occupied(row))?;
+        Some(end - low)
+    })
+}
+
+/// The same from the runs of the strip, which rise in each column: the lowest one that
+/// ends above the piece's run's low is the only one that can be the lowest it meets.
+pub fn next_height(board: &Board, piece: &TurnedPiece, (c, y): Spot) -> Option<i64> {
+    piece.runs.iter().find_map(|&(column, low, high)| {
+        let taken = board.columns.get((c + column) as usize)?;
+        let below = taken.partition_point(|&(_, taken_high)| i64::from(taken_high) <= y + low);
+        let &(taken_low, taken_high) = taken.get(below)?;
+        (i64::from(taken_low) < y + high).then(|| i64::from(taken_high) - low)
+    })
+}
+
+/// The heights tried in one turn, column by column: "A turn is walked column by column;
+/// in each column height 0 is tried first. [...] A height past the top, even height 0,
+/// is no try and ends its column; columns off the strip are not tried. The walk of a
+/// turn ends at its first free position or when no column is left."
+pub fn walk(board: &Board, piece: &TurnedPiece, next: NextHeight) -> Vec<Vec<i64>> {
+    let mut columns = Vec::new();
+    for c in columns_to_try(board, piece) {
+        let mut tried = Vec::new();
+        let mut y = 0;
+        while heights_to_try(board, piece).contains(&y) {
+            tried.push(y);
+            let Some(next) = next(board, piece, (c, y)) else {
+                columns.push(tried);
+                return columns;
+            };
+            assert!(next > y, "a clash is left behind");
+            y = next;
+        }
+        columns.push(tried);
+    }
+    columns
+}
+
+/// The tries "made over all allowed turns, equal to the steps of this walk". "They are
+/// at most the (turn, column) pairs in which a height was tried, times (1 + p × q), with
+/// p the most runs of any allowed turn and q the runs on the strip before the call."
+pub fn count_tries(board: &Board, pieces: &[TurnedPiece]) -> u32 {
+    let walks = pieces
+        .iter()
+        .flat_map(|piece| walk(board, piece, next_height));
+    let in_pairs: Vec<usize> = walks
+        .map(|heights| heights.len())
+        .filter(|&tries| tries > 0)
+        .collect();
+    let tries: usize = in_pairs.iter().sum();
+    assert!(tries as u64 <= most_tries(board, pieces, in_pairs.len()));
+    tries as u32
+}
+
+/// That bound, of so many pairs. It is over 32 bits at the limits.
+pub fn most_tries(board: &Board, pieces: &[TurnedPiece], pairs: usize) -> u64 {
+    let p = pieces.iter().map(|piece| piece.runs.len()).max();
+    let q: usize = board.columns.iter().map(Vec::len).sum();
+    pairs as u64 * (1 + p.unwrap_or(0) as u64 * q as u64)
+}
+
 // -------------------------------------------------------------------- choice
 
 /// "Last column is c + (w/R rounded up) − 1"
@@ -238,19 +319,33 @@ pub fn ask_14(strip: &[u16], columns_after: &[Vec<Stretch>]) -> Result<(), Refus
 }
 
 /// "place 5, 7 to 14": the best position, and the runs of each column with the
-/// piece there. The strip is only read: by S-2 ask asks the same.
+/// piece there; and the tries, "0 where a check before 13 refuses". The strip is only
+/// read: by S-2 ask asks the same.
 pub fn find(
     strip: &[u16],
     outline: &[u16],
     mask: u16,
     work: usize,
+) -> (Result<(Position, Vec<Vec<Stretch>>), Refusal>, u32) {
+    match ask_5_to_12(strip, outline, turns_of_mask(mask), work) {
+        Ok((board, pieces)) => (
+            ask_13_and_14(strip, &board, &pieces),
+            count_tries(&board, &pieces),
+        ),
+        Err(refusal) => (Err(refusal), 0),
+    }
+}
+
+fn ask_13_and_14(
+    strip: &[u16],
+    board: &Board,
+    pieces: &[TurnedPiece],
 ) -> Result<(Position, Vec<Vec<Stretch>>), Refusal> {
-    let (board, pieces) = ask_5_to_12(strip, outline, turns_of_mask(mask), work)?;
     // "13. Is there a free position?"
-    let Some((piece, spot)) = best(&board, &pieces, least_free) else {
+    let Some((piece, spot)) = best(board, pieces, least_free) else {
         return Err(no(13, 1));
     };
-    let columns = runs_after(&board, piece, spot);
+    let columns = runs_after(board, piece, spot);
     ask_14(strip, &columns)?;
     let position = Position {
         turn: piece.turn,
@@ -263,16 +358,14 @@ pub fn find(
 // ---------------------------------------------------------------------- call
 
 /// "Place takes strip, outline, mask and a work buffer of words, and answers
-/// turn, column, height"
-pub fn place(
-    strip: &mut [u16],
-    outline: &[u16],
-    mask: u16,
-    work: &mut [u16],
-) -> Result<Position, Refusal> {
+/// turn, column, height"; by S-5 the tries, too.
+pub fn place(strip: &mut [u16], outline: &[u16], mask: u16, work: &mut [u16]) -> Tried {
     // "A work buffer is zero after each call." Only its length is used here.
     work.fill(0);
-    let (position, columns) = find(strip, outline, mask, work.len())?;
-    put_runs(strip, strip[0], strip[1], strip[2], strip[4], &columns);
-    Ok(position)
+    let (found, tries) = find(strip, outline, mask, work.len());
+    let answer = found.map(|(position, columns)| {
+        put_runs(strip, strip[0], strip[1], strip[2], strip[4], &columns);
+        position
+    });
+    Tried { answer, tries }
 }

@@ -189,10 +189,11 @@ fn ask_and_commit_are_place() {
         let outline = sound_outline(&mut random, mask, size);
         let (mut placed, mut committed) = (strip.clone(), strip);
         let asked = reference::ask(&committed, &outline, mask, &mut [0; 900]);
-        let answer = reference::place(&mut placed, &outline, mask, &mut [0; 900]);
-        assert_eq!(asked, answer);
-        numbers[answer.map_or_else(|refusal| usize::from(refusal.number), |_| 0)] += 1;
-        if let Ok(position) = asked {
+        let tried = reference::place(&mut placed, &outline, mask, &mut [0; 900]);
+        assert_eq!(asked, tried);
+        let number = tried.answer.map_or_else(|refusal| refusal.number, |_| 0);
+        numbers[usize::from(number)] += 1;
+        if let Ok(position) = asked.answer {
             let commit = reference::commit(&mut committed, &outline, position, &mut [0; 900]);
             assert_eq!(commit, Ok(()));
         }

@@ -31,12 +31,12 @@ fn an_opened_strip() {
 fn three_squares() {
     let mut strip = bytes(&opened(10, 2, 10, 4));
     let mut words = opened(10, 2, 10, 4);
-    for position in [at(0, 0, 0), at(0, 0, 4), at(0, 2, 0)] {
+    for (position, tries) in [(at(0, 0, 0), 1), (at(0, 0, 4), 2), (at(0, 2, 0), 3)] {
         let mut work = bytes(&other_words(6));
-        let answer = place_bytes(&mut strip, &bytes(&S), 1, &mut work);
-        assert_eq!(answer, Ok(position));
+        let tried = place_bytes(&mut strip, &bytes(&S), 1, &mut work);
+        assert_eq!((tried.answer, tried.tries), (Ok(position), tries));
         assert_eq!(work, bytes(&[0; 6]));
-        assert_eq!(check_place(&mut words, &S, 1, 6), Ok(position));
+        assert_eq!(check_place_tries(&mut words, &S, 1, 6), tried);
         assert_eq!(strip, bytes(&words));
     }
     let job = sheet(10, 2, 10, &[(&S, 1), (&S, 1), (&S, 1)]);
@@ -55,11 +55,12 @@ fn three_squares() {
 fn three_squares_in_two_steps() {
     let mut strip = bytes(&opened(10, 2, 10, 4));
     let mut words = opened(10, 2, 10, 4);
-    for position in [at(0, 0, 0), at(0, 0, 4), at(0, 2, 0)] {
+    for (position, tries) in [(at(0, 0, 0), 1), (at(0, 0, 4), 2), (at(0, 2, 0), 3)] {
         let before = strip.clone();
         let mut work = bytes(&other_words(6));
-        let answer = ask_bytes(&strip, &bytes(&S), 1, &mut work);
-        assert_eq!((answer, &strip), (Ok(position), &before));
+        let tried = ask_bytes(&strip, &bytes(&S), 1, &mut work);
+        assert_eq!((tried.answer, tried.tries), (Ok(position), tries));
+        assert_eq!(strip, before);
         assert_eq!(work, bytes(&[0; 6]));
         let mut work = bytes(&other_words(6));
         let answer = commit_bytes(&mut strip, &bytes(&S), position, &mut work);
@@ -71,8 +72,8 @@ fn three_squares_in_two_steps() {
     // With a byte less the work buffer has five words.
     let mut work = bytes(&other_words(6));
     let third = at(0, 4, 0);
-    let answer = ask_bytes(&strip, &bytes(&S), 1, &mut work[..11]);
-    assert_eq!(answer, Err(no(12, 1)));
+    let tried = ask_bytes(&strip, &bytes(&S), 1, &mut work[..11]);
+    assert_eq!((tried.answer, tried.tries), (Err(no(12, 1)), 0));
     let answer = commit_bytes(&mut strip, &bytes(&S), third, &mut work[..11]);
     assert_eq!(answer, Err(no(12, 1)));
     let answer = commit_bytes(&mut strip, &bytes(&S), third, &mut work);
@@ -88,8 +89,8 @@ fn refused() {
     assert_eq!(open_bytes(10, 2, 0, 0, &mut strip), Err(no(17, 0)));
     assert_eq!(open_bytes(10, 2, 10, 401, &mut strip), Err(no(21, 0)));
     let mut work = bytes(&other_words(6));
-    let answer = place_bytes(&mut strip, &bytes(&S), 1, &mut work);
-    assert_eq!(answer, Err(no(5, 0)));
+    let tried = place_bytes(&mut strip, &bytes(&S), 1, &mut work);
+    assert_eq!((tried.answer, tried.tries), (Err(no(5, 0)), 0));
     assert_eq!(work, bytes(&[0; 6]));
     let (mut output, mut work) = (bytes(&other_words(3)), bytes(&other_words(6)));
     let job = sheet(10, 2, 10, &[(&S, 1)]);
@@ -114,7 +115,8 @@ fn an_odd_byte_is_no_word() {
     assert_eq!(open_bytes(10, 2, 10, 0, &mut strip[..whole]), Ok(()));
     let (square, mut work) = (bytes(&S), bytes(&other_words(6)));
     let mut place = |outline: &[u8], work: &mut [u8]| {
-        place_bytes(&mut strip, outline, 1, work).map_err(|refusal| refusal.number)
+        let tried = place_bytes(&mut strip, outline, 1, work);
+        tried.answer.map_err(|refusal| refusal.number)
     };
     assert_eq!(place(&square[..15], &mut work), Err(7));
     assert_eq!(place(&square, &mut work[..11]), Err(12));

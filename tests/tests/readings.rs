@@ -448,16 +448,16 @@ fn f2_odd_last_bytes() {
         .collect();
     // 11 bytes are five words, 12 are six.
     let mut work = [7; 11];
-    let answer = place_bytes(&mut strip, &outline, 1, &mut work);
+    let answer = place_bytes(&mut strip, &outline, 1, &mut work).answer;
     assert_eq!(answer, Err(no(12, 1)));
     assert_eq!(work, [0, 0, 0, 0, 0, 0, 0, 0, 0, 0, 7]);
     let mut work = [7; 13];
-    let answer = place_bytes(&mut strip, &outline, 1, &mut work);
+    let answer = place_bytes(&mut strip, &outline, 1, &mut work).answer;
     assert_eq!(answer, Ok(at(0, 0, 0)));
     assert_eq!(work, [0, 0, 0, 0, 0, 0, 0, 0, 0, 0, 0, 0, 7]);
     assert_eq!(strip[length], 7);
     // An outline of 15 bytes is seven words.
-    let answer = place_bytes(&mut strip, &outline[..15], 1, &mut work);
+    let answer = place_bytes(&mut strip, &outline[..15], 1, &mut work).answer;
     assert_eq!(answer, Err(no(7, 1)));
     // Two words and a half are no room for an entry.
     let job = sheet(10, 2, 10, &[(&S, 1)]);
@@ -480,17 +480,20 @@ fn f2_odd_last_bytes() {
 #[test]
 fn f4_the_work_buffer_is_zero() {
     let mut work = [9; 100];
-    assert!(reference::place(&mut [], &S, 1, &mut work).is_err());
+    let refused = reference::place(&mut [], &S, 1, &mut work);
+    assert!(refused.answer.is_err());
     assert_eq!(work, [0; 100], "refused with 5");
     let mut work = [9; 100];
     assert!(reference::lay(&[], 0, &mut [], &mut [], &mut work).is_err());
     assert_eq!(work, [0; 100], "refused with 1");
     let mut work = [9; 5];
     let mut strip = opened(10, 2, 10, 6);
-    assert!(reference::place(&mut strip, &S, 1, &mut work).is_err());
+    let refused = reference::place(&mut strip, &S, 1, &mut work);
+    assert!(refused.answer.is_err());
     assert_eq!(work, [0; 5], "refused with 12");
     let mut work = [9; 100];
-    assert!(reference::place(&mut strip, &S, 1, &mut work).is_ok());
+    let granted = reference::place(&mut strip, &S, 1, &mut work);
+    assert!(granted.answer.is_ok());
     assert_eq!(work, [0; 100], "granted");
 }
 

@@ -2,9 +2,11 @@
 
 ghost use mathlib.Core.Path.{_≡_};
 ghost use lib.ListN.{length};
-ghost use Rattle.defs.specs.Computing.Calls.{placeAnswer, shown, AskStep};
+ghost use Rattle.defs.specs.Computing.Calls.{placeAnswer, placeTries, shown, AskStep};
 use defs::Asking;
+use defs::AskingTries;
 use defs::Placing;
+use defs::PlacingTries;
 use wanted::Wanted;
 
 // The position that place would give, or its number.
@@ -18,8 +20,9 @@ pub fn show(a: Placing) -> Asking
 }
 
 // Lends the next table, into which the piece is entered for question 14; it is entered nowhere else. Leaves words in the work buffer.
-fn look(strip: &[u16], o: &[u16], mask: u16, work: &mut [u16]) -> Placing
-    ensures { λ a. ⌜ a ≡ placeAnswer (now (strip .entry)) (now (o .entry)) mask (length (now (work .entry))) ⌝ }
+fn look(strip: &[u16], o: &[u16], mask: u16, work: &mut [u16]) -> PlacingTries
+    ensures { λ a. ⌜ a .placing ≡ placeAnswer (now (strip .entry)) (now (o .entry)) mask (length (now (work .entry))) ⌝
+        ∗ ⌜ a .tries ≡ placeTries (now (strip .entry)) (now (o .entry)) mask (length (now (work .entry))) ⌝ }
 {
     let mut first = [0u16; limits::FIRSTS];
     let mut lows = [0u16; position::NEXT_RUNS];
@@ -36,10 +39,14 @@ fn look(strip: &[u16], o: &[u16], mask: u16, work: &mut [u16]) -> Placing
 }
 
 // The ask call. The strip after it is the strip before it.
-pub fn ask(strip: &[u16], o: &[u16], mask: u16, work: &mut [u16]) -> Asking
-    ensures { λ a. ⌜ AskStep (now (strip .entry)) (now (o .entry)) mask (now (work .entry)) a (now (strip .exit)) (now (work .exit)) ⌝ }
+pub fn ask(strip: &[u16], o: &[u16], mask: u16, work: &mut [u16]) -> AskingTries
+    ensures { λ a. ⌜ AskStep (now (strip .entry)) (now (o .entry)) mask (now (work .entry)) (a .asking) (a .tries) (now (strip .exit)) (now (work .exit)) ⌝ }
 {
-    let a = look(strip, o, mask, work);
+    let x = look(strip, o, mask, work);
     words::clear(work);
-    show(a)
+    let a = x.placing;
+    AskingTries {
+        asking: show(a),
+        tries: x.tries,
+    }
 }

@@ -11,8 +11,11 @@ use Rattle.defs.specs.declared.Position.{Position}
 use Rattle.defs.specs.Meaning.Placing.{endColumn}
 use Rattle.defs.specs.Computing.Cells.{Rows, pieceRuns, countRuns, allowedb, mostRuns}
 use Rattle.defs.specs.Computing.Search.{firstFree, beats, better, bestBelow}
+use Rattle.defs.specs.Computing.Walk.{turnWalk, triesIn, triesBelow}
 use Rattle.ranks.specs.Ranks.{beatsBy, betterBy, merged, limitOf}
-use Rattle.best.specs.Choice.{placeOf, RankOf, Ranks, Finds, FindsTo, OneTurn, TurnsTo, Kept}
+use Rattle.search.specs.declared.Way.{Way}
+use Rattle.search.specs.declared.Way.the-variants.{Walk as ByWalk, Round}
+use Rattle.best.specs.Choice.{placeOf, RankOf, Ranks, Finds, FindsTo, TriesAre, OneTurn, TurnsTo, Kept}
 use Rattle.ranks.specs.declared.Ranked.{Ranked}
 use Rattle.ranks.specs.declared.Choice.{Choice}
 use Rattle.ranks.specs.declared.Choice.the-variants.{Chosen, Nowhere}
@@ -74,8 +77,8 @@ module _ (R : ℕ) (o : List ℕ) where
           ap (λ (b : Bool). cond b (some q) (some (p .at)))
           (sym (later-loses q (p .at) (omega (arith, k .end, h q refl .0, h q refl .1))))
 
-pub all-turns : {W R N g : ℕ} {held : List (List Rows)} {o : List ℕ} {mask t words : ℕ} {s : Tried} → t ≤ 4 → 4 ≤ t →
-    TurnsTo W R N g held o mask t words s → TurnsTo W R N g held o mask 4 words s
+pub all-turns : {W R N g : ℕ} {held : List (List Rows)} {o : List ℕ} {mask t words : ℕ} {way : Way} {s : Tried} → t ≤ 4 → 4 ≤ t →
+    TurnsTo W R N g held o mask t words way s → TurnsTo W R N g held o mask 4 words way s
 all-turns {t = t} a b h = let e : t ≡ 4 = omega arith in rw e at h
 
 -- no runs were put yet
@@ -83,21 +86,41 @@ pub none-kept : (o : List ℕ) (R g : ℕ) (work : List ℕ) → Kept o R g work
 none-kept o R g work = record { stand = λ few. absurd (omega arith) }
 
 -- The turns below 0, and one turn more.
-pub no-turns : (W R N g : ℕ) (held : List (List Rows)) (o : List ℕ) (mask words : ℕ) →
-    TurnsTo W R N g held o mask 0 words (record { most = 0; best = Nowhere; stands = record { turn = 4; runs = 0 } })
-unfolding mostRuns bestBelow
-no-turns W R N g held o mask words = record { most = refl; best = λ h. record { is = refl; ranks = tt } }
+pub no-turns : (W R N g : ℕ) (held : List (List Rows)) (o : List ℕ) (mask words : ℕ) (way : Way) →
+    TurnsTo W R N g held o mask 0 words way (record { most = 0; best = Nowhere; tries = 0; stands = record { turn = 4; runs = 0 } })
+unfolding mostRuns bestBelow triesBelow
+no-turns W R N g held o mask words ByWalk =
+    record { most = refl; few = omega arith; tries = λ h. refl; best = λ h. record { is = refl; ranks = tt } }
+no-turns W R N g held o mask words Round =
+    record { most = refl; few = omega arith; tries = λ h. tt; best = λ h. record { is = refl; ranks = tt } }
 
-module _ {W R N g : ℕ} {held : List (List Rows)} {o : List ℕ} {mask t words : ℕ} {s : Tried} (so-far : TurnsTo W R N g held o mask t words s) where
-  pub turn-more : {x : Tried} {limit : ℕ} → allowedb mask t ≡ true → limit ≡ limitOf (s .best) N → OneTurn W R N g held o t words limit x →
-      TurnsTo W R N g held o mask (t + 1) words (merged s x)
-  unfolding mostRuns bestBelow
+-- the tries of one turn more
+tries-more : (way : Way) (a b m n : ℕ) → TriesAre way a m → TriesAre way b n → TriesAre way (a + b) (m + n)
+tries-more ByWalk a b m n e f = ap₂ _+_ e f
+tries-more Round a b m n e f = tt
+
+pub tries-same : (way : Way) (a m n : ℕ) → m ≡ n → TriesAre way a m → TriesAre way a n
+tries-same ByWalk a m n q e = e ∙ q
+tries-same Round a m n q e = tt
+
+module _ {W R N g : ℕ} {held : List (List Rows)} {o : List ℕ} {mask t words : ℕ} (way : Way) {s : Tried} (so-far : TurnsTo W R N g held o mask t words way s) where
+  -- the tries counted so far, by whether turn t is allowed
+  abbrev triesTo : Bool → ℕ
+  triesTo b = triesBelow W R N g held o mask t + cond b (triesIn (turnWalk W R N g held o t)) 0
+
+  pub turn-more : {x : Tried} {limit : ℕ} → allowedb mask t ≡ true → limit ≡ limitOf (s .best) N → OneTurn W R N g held o t words limit way x →
+      TurnsTo W R N g held o mask (t + 1) words way (merged s x)
+  unfolding mostRuns bestBelow triesBelow
   turn-more {x} {limit} e stop one = let n : t + 1 ≡ suc t = omega arith in rw n (go e)
     where
-      go : allowedb mask t ≡ true → TurnsTo W R N g held o mask (suc t) words (merged s x)
+      go : allowedb mask t ≡ true → TurnsTo W R N g held o mask (suc t) words way (merged s x)
       go e =
           record {
             most = ap₂ max (so-far .most) (one .most) ∙ ap (λ (b : Bool). max (mostRuns o mask R g t) (cond b (countRuns (pieceRuns o t R g)) 0)) (sym e);
+            few = omega (arith, so-far .few, one .few);
+            tries =
+                λ h.
+                tries-same way _ _ _ (ap triesTo (sym e)) (tries-more way _ _ _ _ (so-far .tries (omega arith)) (one .tries (omega arith)));
             best =
                 λ h.
                 subst (λ (b : Bool). Finds R o (better R o (bestBelow W R N g held o mask t) (cond b (firstFree W R N g held o t) none)) (betterBy (s .best) (x .best)))
@@ -112,16 +135,21 @@ module _ {W R N g : ℕ} {held : List (List Rows)} {o : List ℕ} {mask t words 
   keep : (n : ℕ) → n ≡ max n 0
   keep n = omega arith
 
-  pub turn-skipped : allowedb mask t ≡ false → TurnsTo W R N g held o mask (t + 1) words s
-  unfolding mostRuns bestBelow
+  none-more : (n : ℕ) → n ≡ n + 0
+  none-more n = omega arith
+
+  pub turn-skipped : allowedb mask t ≡ false → TurnsTo W R N g held o mask (t + 1) words way s
+  unfolding mostRuns bestBelow triesBelow
   turn-skipped e = let n : t + 1 ≡ suc t = omega arith in rw n (go e)
     where
-      go : allowedb mask t ≡ false → TurnsTo W R N g held o mask (suc t) words s
+      go : allowedb mask t ≡ false → TurnsTo W R N g held o mask (suc t) words way s
       go e =
           record {
             most =
                 so-far .most ∙ keep (mostRuns o mask R g t) ∙
                 ap (λ (b : Bool). max (mostRuns o mask R g t) (cond b (countRuns (pieceRuns o t R g)) 0)) (sym e);
+            few = omega (arith, so-far .few);
+            tries = λ h. tries-same way _ _ _ (none-more (triesBelow W R N g held o mask t) ∙ ap triesTo (sym e)) (so-far .tries h);
             best =
                 λ h.
                 subst (λ (x : Option Position). Finds R o x (s .best))

@@ -17,6 +17,7 @@ use Rattle.defs.specs.Meaning.Placing.{columnsFor, endColumn, top}
 use Rattle.defs.specs.Computing.Cells.{Rows, pieceRuns, allowedb}
 use Rattle.defs.specs.Computing.Calls.{runsWords}
 use Rattle.defs.specs.Computing.Search.{freeb, dropN, firstFree}
+use Rattle.defs.specs.Computing.Walk.{turnWalk, triesIn}
 use Rattle.laws.proofs.Questions.{allowed}
 use Rattle.geom.proofs.Strip.{lt-or-le}
 use Rattle.geom.proofs.RunWords.{runs-length}
@@ -29,12 +30,16 @@ use Rattle.tables.proofs.Flats.{table-flat}
 use Rattle.tables.proofs.Copies.{NoneBefore, not-free}
 use Rattle.walk.specs.declared.Spot.{Spot}
 use Rattle.walk.specs.declared.Spot.the-variants.{Found, None}
+use Rattle.walk.specs.declared.TurnWalk.{TurnWalk}
 use Rattle.walk.specs.Free.{Frame, NoHeight}
 use Rattle.walk.proofs.Searches.{frame-of, free-is, found-is}
+use Rattle.walk.proofs.Walks.{tries-are}
 use Rattle.ranks.specs.declared.Choice.{Choice}
 use Rattle.ranks.specs.declared.Choice.the-variants.{Nowhere}
-use Rattle.search.specs.Searched.{FullBefore, SearchedTo}
-use Rattle.best.specs.Choice.{ranked, SpotFits, FindsTo, NoneInTurn, OneTurn, Kept}
+use Rattle.search.specs.declared.Way.{Way}
+use Rattle.search.specs.declared.Way.the-variants.{Walk as ByWalk, Round}
+use Rattle.search.specs.Searched.{FullBefore, SearchedTo, StepsBy, Looks}
+use Rattle.best.specs.Choice.{ranked, FindsTo, TriesAre, NoneInTurn, OneTurn, Kept}
 
 -- words written at the start are read there
 stored-front : (l ws : List ℕ) → length ws ≤ length l → take (length ws) (sets l 0 ws) ≡ ws
@@ -42,9 +47,15 @@ stored-front l ws h = ap (take (length ws)) (sets-eq ws l 0 (omega arith)) ∙ t
 
 module _ {o : List ℕ} {t R g : ℕ} {work work' : List ℕ} {k : ℕ} (put : PutRuns o t R g work work' k) where
   -- more runs than the work buffer has room for
-  pub too-many : (W N : ℕ) (held : List (List Rows)) (limit : ℕ) → length work' / 3 < k →
-      OneTurn W R N g held o t (length work) limit (record { most = k; best = Nowhere; stands = record { turn = t; runs = k } })
-  too-many W N held limit m = record { most = put .count; best = λ r. absurd (omega (arith, put .long)) }
+  pub too-many : (W N : ℕ) (held : List (List Rows)) (limit : ℕ) (way : Way) → length work' / 3 < k →
+      OneTurn W R N g held o t (length work) limit way (record { most = k; best = Nowhere; tries = 0; stands = record { turn = t; runs = k } })
+  too-many W N held limit way m =
+      record {
+        most = put .count;
+        few = omega arith;
+        tries = λ r. absurd (omega (arith, put .long));
+        best = λ r. absurd (omega (arith, put .long));
+      }
 
   pub stands : k ≤ length work' / 3 → Stands (pieceRuns o t R g) work' k
   stands m =
@@ -93,9 +104,11 @@ module _
             record { none = λ y rows free. h .none c y before fits rows (free-is o t R g small laid stood c y fits .0 free) };
       })
 
-  pub spot-fits : (limit : ℕ) (s : Spot) → W ≤ 16000 → N ≤ 4096 → SearchedTo f l h r N W p wide tall limit s → SpotFits s wide tall
-  spot-fits limit (Found c y) a b e = (omega (arith, e .fits), omega (arith, e .height .fits))
-  spot-fits limit None a b e = tt
+  pub spot-fits : {limit c y : ℕ} {way : Way} {a : TurnWalk} → W ≤ 16000 → N ≤ 4096 → Looks f l h r N W p wide tall limit way a →
+      a .spot ≡ Found c y → (c + wide ≤ 65535) × (y + tall ≤ 65535)
+  spot-fits {limit} few many e q =
+      let s = subst (SearchedTo f l h r N W p wide tall limit) q (e .spot) in
+      (omega (arith, s .fits), omega (arith, s .height .fits))
 
   -- a position that the definition finds is free, so it is none of those that have no free height
   after-limit : (limit : ℕ) → ((c : ℕ) → c + columnsFor (extentX o t) R ≤ limit → NoHeight f l h r N W p (extentY o t) c) →
@@ -123,10 +136,23 @@ module _
       record { is = sym (found-is o t R g small laid stood e); ranks = record { end = refl; top = refl } }
   finds limit None e = after-limit limit e
 
-  pub turn-tried : (words limit : ℕ) (s : Spot) {c : Choice} → SearchedTo f l h r N W p wide tall limit s → c ≡ ranked s t wide tall →
-      OneTurn W R N g (tableOf f l h N) o t words limit (record { most = p; best = c; stands = record { turn = t; runs = p } })
-  turn-tried words limit s e q =
-      record { most = stood .count; best = λ _. rw (q, wide-is, up) (finds limit s (rw (wide-is, up) at e)) }
+  -- the walk counts the tries of the definition's walk
+  tries : (way : Way) (n : ℕ) → StepsBy f l h r N W p (columnsFor (extentX o t) R) (extentY o t) way n →
+      TriesAre way n (triesIn (turnWalk W R N g (tableOf f l h N) o t))
+  tries ByWalk n e = tries-are o t R g small laid stood e
+  tries Round n e = tt
+
+  pub turn-tried : (words limit : ℕ) (way : Way) (a : TurnWalk) {c : Choice} → Looks f l h r N W p wide tall limit way a →
+      c ≡ ranked (a .spot) t wide tall →
+      OneTurn W R N g (tableOf f l h N) o t words limit way
+      (record { most = p; best = c; tries = a .tries; stands = record { turn = t; runs = p } })
+  turn-tried words limit way a e q =
+      record {
+        most = stood .count;
+        few = e .few;
+        tries = λ _. tries way (a .tries) (rw (wide-is, up) at (e .steps));
+        best = λ _. rw (q, wide-is, up) (finds limit (a .spot) (rw (wide-is, up) at (e .spot)));
+      }
 
 -- question 10 says that an allowed turn keeps its order
 pub keeps-turn : (o : List ℕ) (mask t : ℕ) {r : Bool} → t ≤ 3 → Question10 o mask → r ≡ allowedb mask t → r ≡ true →

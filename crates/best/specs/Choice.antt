@@ -10,11 +10,14 @@ use Rattle.defs.specs.Meaning.Turn.{extentX, extentY}
 use Rattle.defs.specs.Meaning.Placing.{columnsFor, endColumn, top}
 use Rattle.defs.specs.Computing.Cells.{Rows, pieceRuns, countRuns, mostRuns}
 use Rattle.defs.specs.Computing.Search.{freeb, dropN, firstFree, bestBelow}
+use Rattle.defs.specs.Computing.Walk.{turnWalk, triesIn, triesBelow}
 use Rattle.outline.specs.Vertex.{Lent, BoundsOf}
 use Rattle.tables.specs.Flat.{Laid}
 use Rattle.tables.specs.Piece.{Stands}
 use Rattle.walk.specs.declared.Spot.{Spot}
 use Rattle.walk.specs.declared.Spot.the-variants.{Found, None}
+use Rattle.search.specs.declared.Way.{Way}
+use Rattle.search.specs.declared.Way.the-variants.{Walk as ByWalk, Round}
 use Rattle.ranks.specs.declared.Ranked.{Ranked}
 use Rattle.ranks.specs.declared.Choice.{Choice}
 use Rattle.ranks.specs.declared.Choice.the-variants.{Chosen, Nowhere}
@@ -35,15 +38,12 @@ Ranks R o (Chosen b) = RankOf R o b
 Ranks R o Nowhere = Unit {0}
 
 -- a spot of turn t, with its rank
-abbrev pub ranked : Spot → ℕ → ℕ → ℕ → Choice
-ranked (Found c y) t wide tall =
-    Chosen (record { at = record { turn = t; column = c; height = y }; end = c + wide; top = y + tall })
-ranked None t wide tall = Nowhere
+abbrev pub rankedAt : ℕ → ℕ → ℕ → ℕ → ℕ → Ranked
+rankedAt c y t wide tall = record { at = record { turn = t; column = c; height = y }; end = c + wide; top = y + tall }
 
--- the spot's last column and top are numbers of 16 bits
-abbrev pub SpotFits : Spot → ℕ → ℕ → Type 0
-SpotFits (Found c y) wide tall = (c + wide ≤ 65535) × (y + tall ≤ 65535)
-SpotFits None wide tall = Unit {0}
+abbrev pub ranked : Spot → ℕ → ℕ → ℕ → Choice
+ranked (Found c y) t wide tall = Chosen (rankedAt c y t wide tall)
+ranked None t wide tall = Nowhere
 
 -- a choice is what the definition finds
 pub record Finds (R : ℕ) (o : List ℕ) (x : Option Position) (c : Choice) : Type 0 where
@@ -73,14 +73,23 @@ pub record NoneInTurn (W R N g : ℕ) (held : List (List Rows)) (o : List ℕ) (
       (c y : ℕ) → c + columnsFor (extentX o t) R < lower → c + columnsFor (extentX o t) R ≤ N → y + extentY o t ≤ W →
       ¬ (freeb y (pieceRuns o t R g) (dropN c held) ≡ true)
 
+-- the walk counts n tries
+abbrev pub TriesAre : Way → ℕ → ℕ → Type 0
+TriesAre ByWalk k n = k ≡ n
+TriesAre Round k n = Unit {0}
+
 -- turn t, with work of so many words, searched up to column `limit`
-pub record OneTurn (W R N g : ℕ) (held : List (List Rows)) (o : List ℕ) (t words limit : ℕ) (s : Tried) : Type 0 where
+pub record OneTurn (W R N g : ℕ) (held : List (List Rows)) (o : List ℕ) (t words limit : ℕ) (way : Way) (s : Tried) : Type 0 where
   pub most : s .most ≡ countRuns (pieceRuns o t R g)
+  pub few : s .tries ≤ 268500992
+  pub tries : 3 * s .most ≤ words → TriesAre way (s .tries) (triesIn (turnWalk W R N g held o t))
   pub best : 3 * s .most ≤ words → FindsTo R N o (firstFree W R N g held o t) limit (s .best)
 
 -- the allowed turns below t
-pub record TurnsTo (W R N g : ℕ) (held : List (List Rows)) (o : List ℕ) (mask t words : ℕ) (s : Tried) : Type 0 where
+pub record TurnsTo (W R N g : ℕ) (held : List (List Rows)) (o : List ℕ) (mask t words : ℕ) (way : Way) (s : Tried) : Type 0 where
   pub most : s .most ≡ mostRuns o mask R g t
+  pub few : s .tries ≤ 268500992 * t
+  pub tries : 3 * s .most ≤ words → TriesAre way (s .tries) (triesBelow W R N g held o mask t)
   pub best : 3 * s .most ≤ words → Finds R o (bestBelow W R N g held o mask t) (s .best)
 
 -- where a turn's runs were put into the work buffer, and all of them fit, these k stand there

@@ -8,7 +8,7 @@ ghost use Rattle.defs.specs.Meaning.Turn.{turned};
 ghost use Rattle.defs.specs.Meaning.Question.{Question10};
 ghost use Rattle.tables.specs.Flat.{tableOf};
 ghost use Rattle.tables.proofs.Copies.{NoneBefore};
-ghost use Rattle.best.specs.Choice.{SpotFits, ranked, Ready, NoneInTurn, OneTurn, TurnsTo, Kept};
+ghost use Rattle.best.specs.Choice.{rankedAt, Ready, NoneInTurn, OneTurn, TurnsTo, Kept};
 use defs::Figures;
 use defs::Position;
 use outline::Bounds;
@@ -20,27 +20,24 @@ use search::Way;
 use walk::Search;
 use walk::Spot;
 
-// The rank of the spot of turn t.
-fn rank(s: Spot, t: u16, wide: usize, tall: u16) -> Choice
-    requires { ⌜ SpotFits s wide tall ⌝ }
-    ensures { λ c. ⌜ c ≡ ranked s t wide tall ⌝ }
+// Column c and height y of turn t, with their rank.
+fn rank(c: usize, y: u16, t: u16, wide: usize, tall: u16) -> Ranked
+    requires { ⌜ (c + wide ≤ 65535) × (y + tall ≤ 65535) ⌝ }
+    ensures { λ r. ⌜ r ≡ rankedAt c y t wide tall ⌝ }
 {
-    match s {
-        Spot::Found(c, y) => Choice::Chosen(Ranked {
-            at: Position {
-                turn: t,
-                column: c as u16,
-                height: y,
-            },
-            end: c + wide,
-            top: y + tall,
-        }),
-        Spot::None => Choice::Nowhere,
+    Ranked {
+        at: Position {
+            turn: t,
+            column: c as u16,
+            height: y,
+        },
+        end: c + wide,
+        top: y + tall,
     }
 }
 
 // The least free position in turn t, where the runs of the turn fit in the work buffer and none ends before column `lower`. One whose
-// last column is after `limit` may be left out.
+// last column is after `limit` may be left out, where the walk does not count its tries.
 fn try_turn(
     g: Figures,
     gap: u16,
@@ -58,7 +55,7 @@ fn try_turn(
     requires { ⌜ Ready (now first) (now lows) (now highs) (now o) (g .width) (g .resolution) (g .columns) gap (b .left) (b .right) (b .foot) (b .head) ⌝
         ∗ ⌜ t ≤ 3 ⌝ ∗ ⌜ KeepsOrder (turned (now o) t) ⌝ ∗ ⌜ (limit ≤ g .columns)
         × NoneInTurn (g .width) (g .resolution) (g .columns) gap (tableOf (now first) (now lows) (now highs) (g .columns)) (now o) t lower ⌝ }
-    ensures { λ s. ⌜ OneTurn (g .width) (g .resolution) (g .columns) gap (tableOf (now (first .entry)) (now (lows .entry)) (now (highs .entry)) (g .columns)) (now (o .entry)) t (length (now (work .entry))) limit s ⌝
+    ensures { λ s. ⌜ OneTurn (g .width) (g .resolution) (g .columns) gap (tableOf (now (first .entry)) (now (lows .entry)) (now (highs .entry)) (g .columns)) (now (o .entry)) t (length (now (work .entry))) limit way s ⌝
         ∗ ⌜ Kept (now (o .entry)) (g .resolution) gap (now (work .exit)) (s .stands .turn) (s .stands .runs) ⌝ }
 {
     let e = outline::extent_of(o, b, t);
@@ -67,6 +64,7 @@ fn try_turn(
         return Tried {
             most: k,
             best: Choice::Nowhere,
+            tries: 0,
             stands: Standing { turn: t, runs: k },
         };
     }
@@ -78,10 +76,20 @@ fn try_turn(
         wide: wide,
         tall: e.h,
     };
-    let s = search::search(first, lows, highs, work, figures, way, lower, limit);
+    let found = search::search(first, lows, highs, work, figures, way, lower, limit);
+    let spot = found.spot;
+    let Spot::Found(c, y) = spot else {
+        return Tried {
+            most: k,
+            best: Choice::Nowhere,
+            tries: found.tries,
+            stands: Standing { turn: t, runs: k },
+        };
+    };
     Tried {
         most: k,
-        best: rank(s, t, wide, e.h),
+        best: Choice::Chosen(rank(c, y, t, wide, e.h)),
+        tries: found.tries,
         stands: Standing { turn: t, runs: k },
     }
 }
@@ -106,9 +114,9 @@ fn allowed_turn(
         ∗ ⌜ t ≤ 3 ⌝
         ∗ ⌜ Question10 (now o) mask
         × NoneBefore (g .width) (g .resolution) (g .columns) gap (tableOf (now first) (now lows) (now highs) (g .columns)) (now o) mask lower ⌝
-        ∗ ⌜ TurnsTo (g .width) (g .resolution) (g .columns) gap (tableOf (now first) (now lows) (now highs) (g .columns)) (now o) mask t (length (now work)) s ⌝
+        ∗ ⌜ TurnsTo (g .width) (g .resolution) (g .columns) gap (tableOf (now first) (now lows) (now highs) (g .columns)) (now o) mask t (length (now work)) way s ⌝
         ∗ ⌜ Kept (now o) (g .resolution) gap (now work) (s .stands .turn) (s .stands .runs) ⌝ }
-    ensures { λ r. ⌜ TurnsTo (g .width) (g .resolution) (g .columns) gap (tableOf (now (first .entry)) (now (lows .entry)) (now (highs .entry)) (g .columns)) (now (o .entry)) mask (t + 1) (length (now (work .entry))) r ⌝
+    ensures { λ r. ⌜ TurnsTo (g .width) (g .resolution) (g .columns) gap (tableOf (now (first .entry)) (now (lows .entry)) (now (highs .entry)) (g .columns)) (now (o .entry)) mask (t + 1) (length (now (work .entry))) way r ⌝
         ∗ ⌜ Kept (now (o .entry)) (g .resolution) gap (now (work .exit)) (r .stands .turn) (r .stands .runs) ⌝ }
 {
     if checks::allows(mask, t) {
@@ -137,12 +145,13 @@ pub fn best_turn(
     requires { ⌜ Ready (now first) (now lows) (now highs) (now o) (g .width) (g .resolution) (g .columns) gap (b .left) (b .right) (b .foot) (b .head) ⌝
         ∗ ⌜ Question10 (now o) mask
         × NoneBefore (g .width) (g .resolution) (g .columns) gap (tableOf (now first) (now lows) (now highs) (g .columns)) (now o) mask lower ⌝ }
-    ensures { λ r. ⌜ TurnsTo (g .width) (g .resolution) (g .columns) gap (tableOf (now (first .entry)) (now (lows .entry)) (now (highs .entry)) (g .columns)) (now (o .entry)) mask 4 (length (now (work .entry))) r ⌝
+    ensures { λ r. ⌜ TurnsTo (g .width) (g .resolution) (g .columns) gap (tableOf (now (first .entry)) (now (lows .entry)) (now (highs .entry)) (g .columns)) (now (o .entry)) mask 4 (length (now (work .entry))) way r ⌝
         ∗ ⌜ Kept (now (o .entry)) (g .resolution) gap (now (work .exit)) (r .stands .turn) (r .stands .runs) ⌝ }
 {
     let mut s = Tried {
         most: 0,
         best: Choice::Nowhere,
+        tries: 0,
         stands: Standing { turn: 4, runs: 0 },
     };
     let mut t = 0;

@@ -9,21 +9,22 @@ use Rattle.defs.specs.declared.Placing.the-variants.{Placed}
 use Rattle.defs.specs.Computing.Calls.{cleared, EnteredLeaves}
 use Rattle.defs.specs.Computing.Bytes.{wordsIn, mostWork, bytesLeft}
 use Rattle.wanted.specs.declared.Wanted.{Wanted}
-use Rattle.wanted.specs.Answers.{answerTo, Put}
+use Rattle.wanted.specs.Answers.{answerTo, countTo, Put}
 
 -- on the words of a strip and an outline passed as bytes; what a refused call leaves of a copy does not matter
-pub record PutWords (strip o : List ℕ) (w : Wanted) (work : ℕ) (a : Placing) (words : List ℕ) : Type 0 where
+pub record PutWords (strip o : List ℕ) (w : Wanted) (work : ℕ) (a : Placing) (n : ℕ) (words : List ℕ) : Type 0 where
   pub answer : a ≡ answerTo w (wordsIn strip) (wordsIn o) work
+  pub counted : n ≡ countTo w (wordsIn strip) (wordsIn o) work
   pub leaves : (p : Position) → a ≡ Placed p → EnteredLeaves (wordsIn strip) (wordsIn o) p words
 
 -- and the work buffer cleared
-pub record PutCopy (strip o : List ℕ) (w : Wanted) (work : List ℕ) (a : Placing) (words work' : List ℕ) : Type 0 where
-  pub done : PutWords strip o w (min (length work / 2) mostWork) a words
+pub record PutCopy (strip o : List ℕ) (w : Wanted) (work : List ℕ) (a : Placing) (n : ℕ) (words work' : List ℕ) : Type 0 where
+  pub done : PutWords strip o w (min (length work / 2) mostWork) a n words
   pub cleared-work : work' ≡ bytesLeft work (cleared (wordsIn work))
 
 -- and the strip put back
-pub record PutBack (strip o : List ℕ) (w : Wanted) (work : List ℕ) (a : Placing) (strip' work' : List ℕ) : Type 0 where
+pub record PutBack (strip o : List ℕ) (w : Wanted) (work : List ℕ) (a : Placing) (n : ℕ) (strip' work' : List ℕ) : Type 0 where
   pub words : List ℕ
-  pub done : Put (wordsIn strip) (wordsIn o) w (min (length work / 2) mostWork) a words
+  pub done : Put (wordsIn strip) (wordsIn o) w (min (length work / 2) mostWork) a n words
   pub strip-left : strip' ≡ bytesLeft strip words
   pub cleared-work : work' ≡ bytesLeft work (cleared (wordsIn work))

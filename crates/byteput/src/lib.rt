@@ -6,9 +6,10 @@ ghost use Prim.Native.Nat.{_/_, _≤_, min};
 ghost use lib.ListN.{length};
 ghost use Rattle.defs.specs.Computing.Bytes.{mostWork, PlaceBytesStep, AskBytesStep, CommitBytesStep};
 ghost use Rattle.byteput.specs.Steps.{PutWords, PutCopy, PutBack};
-use defs::Asking;
+use defs::AskingTries;
 use defs::Committing;
 use defs::Placing;
+use defs::PlacingTries;
 use defs::Position;
 use wanted::Wanted;
 
@@ -38,9 +39,9 @@ fn put_words(
     words: &mut [u16],
     corners: &mut [u16],
     work: &mut [u16],
-) -> Placing
+) -> PlacingTries
     requires { ⌜ length (now words) ≡ min (length (now strip) / 2) 68102 ⌝ ∗ ⌜ length (now corners) ≡ min (length (now outline) / 2) 129 ⌝ }
-    ensures { λ a. ⌜ PutWords (now (strip .entry)) (now (outline .entry)) wanted (length (now (work .entry))) a (now (words .exit)) ⌝ }
+    ensures { λ a. ⌜ PutWords (now (strip .entry)) (now (outline .entry)) wanted (length (now (work .entry))) (a .placing) (a .tries) (now (words .exit)) ⌝ }
 {
     bytewords::take_words(strip, words);
     bytewords::take_words(outline, corners);
@@ -54,9 +55,9 @@ fn put_with(
     wanted: Wanted,
     words: &mut [u16],
     work: &mut [u16],
-) -> Placing
+) -> PlacingTries
     requires { ⌜ length (now words) ≡ min (length (now strip) / 2) 68102 ⌝ }
-    ensures { λ a. ⌜ PutWords (now (strip .entry)) (now (outline .entry)) wanted (length (now (work .entry))) a (now (words .exit)) ⌝ }
+    ensures { λ a. ⌜ PutWords (now (strip .entry)) (now (outline .entry)) wanted (length (now (work .entry))) (a .placing) (a .tries) (now (words .exit)) ⌝ }
 {
     let mut corners = [0u16; OUTLINE_ROOM];
     let m = lesser(outline.len() / 2, OUTLINE_ROOM);
@@ -70,9 +71,9 @@ fn put_small(
     wanted: Wanted,
     words: &mut [u16],
     room: usize,
-) -> Placing
+) -> PlacingTries
     requires { ⌜ length (now words) ≡ min (length (now strip) / 2) 68102 ⌝ ∗ ⌜ room ≤ 9000 ⌝ }
-    ensures { λ a. ⌜ PutWords (now (strip .entry)) (now (outline .entry)) wanted (min room mostWork) a (now (words .exit)) ⌝ }
+    ensures { λ a. ⌜ PutWords (now (strip .entry)) (now (outline .entry)) wanted (min room mostWork) (a .placing) (a .tries) (now (words .exit)) ⌝ }
 {
     let mut work = [0u16; SMALL_WORK];
     put_with(strip, outline, wanted, words, &mut work[..room])
@@ -85,9 +86,9 @@ fn put_large(
     wanted: Wanted,
     words: &mut [u16],
     room: usize,
-) -> Placing
+) -> PlacingTries
     requires { ⌜ length (now words) ≡ min (length (now strip) / 2) 68102 ⌝ }
-    ensures { λ a. ⌜ PutWords (now (strip .entry)) (now (outline .entry)) wanted (min room mostWork) a (now (words .exit)) ⌝ }
+    ensures { λ a. ⌜ PutWords (now (strip .entry)) (now (outline .entry)) wanted (min room mostWork) (a .placing) (a .tries) (now (words .exit)) ⌝ }
 {
     let mut work = [0u16; MOST_WORK];
     let n = lesser(room, MOST_WORK);
@@ -103,9 +104,9 @@ fn put_copy(
     wanted: Wanted,
     words: &mut [u16],
     work: &mut [u8],
-) -> Placing
+) -> PlacingTries
     requires { ⌜ length (now words) ≡ min (length (now strip) / 2) 68102 ⌝ }
-    ensures { λ a. ⌜ PutCopy (now (strip .entry)) (now (outline .entry)) wanted (now (work .entry)) a (now (words .exit)) (now (work .exit)) ⌝ }
+    ensures { λ a. ⌜ PutCopy (now (strip .entry)) (now (outline .entry)) wanted (now (work .entry)) (a .placing) (a .tries) (now (words .exit)) (now (work .exit)) ⌝ }
 {
     let n = work.len() / 2;
     if 2 * MOST_WORK <= n {
@@ -127,22 +128,24 @@ fn put_back(
     wanted: Wanted,
     words: &mut [u16],
     work: &mut [u8],
-) -> Placing
+) -> PlacingTries
     requires { ⌜ length (now words) ≡ min (length (now strip) / 2) 68102 ⌝ }
-    ensures { λ a. ⌜ PutBack (now (strip .entry)) (now (outline .entry)) wanted (now (work .entry)) a (now (strip .exit)) (now (work .exit)) ⌝ }
+    ensures { λ a. ⌜ PutBack (now (strip .entry)) (now (outline .entry)) wanted (now (work .entry)) (a .placing) (a .tries) (now (strip .exit)) (now (work .exit)) ⌝ }
 {
-    match put_copy(strip, outline, wanted, words, work) {
+    let x = put_copy(strip, outline, wanted, words, work);
+    let a = x.placing;
+    match a {
         Placing::Placed(p) => {
             bytewords::put_words(words, strip);
-            Placing::Placed(p)
+            x
         }
-        Placing::Refused(r) => Placing::Refused(r),
+        Placing::Refused(r) => x,
     }
 }
 
 // The place call.
-pub fn place_bytes(strip: &mut [u8], outline: &[u8], mask: u16, work: &mut [u8]) -> Placing
-    ensures { λ a. ⌜ PlaceBytesStep (now (strip .entry)) (now (outline .entry)) mask (now (work .entry)) a (now (strip .exit)) (now (work .exit)) ⌝ }
+pub fn place_bytes(strip: &mut [u8], outline: &[u8], mask: u16, work: &mut [u8]) -> PlacingTries
+    ensures { λ a. ⌜ PlaceBytesStep (now (strip .entry)) (now (outline .entry)) mask (now (work .entry)) (a .placing) (a .tries) (now (strip .exit)) (now (work .exit)) ⌝ }
 {
     let mut words = [0u16; STRIP_ROOM];
     let n = lesser(strip.len() / 2, STRIP_ROOM);
@@ -150,13 +153,17 @@ pub fn place_bytes(strip: &mut [u8], outline: &[u8], mask: u16, work: &mut [u8])
 }
 
 // The ask call: place on a copy of the strip that is not put back.
-pub fn ask_bytes(strip: &[u8], outline: &[u8], mask: u16, work: &mut [u8]) -> Asking
-    ensures { λ a. ⌜ AskBytesStep (now (strip .entry)) (now (outline .entry)) mask (now (work .entry)) a (now (strip .exit)) (now (work .exit)) ⌝ }
+pub fn ask_bytes(strip: &[u8], outline: &[u8], mask: u16, work: &mut [u8]) -> AskingTries
+    ensures { λ a. ⌜ AskBytesStep (now (strip .entry)) (now (outline .entry)) mask (now (work .entry)) (a .asking) (a .tries) (now (strip .exit)) (now (work .exit)) ⌝ }
 {
     let mut words = [0u16; STRIP_ROOM];
     let n = lesser(strip.len() / 2, STRIP_ROOM);
-    let a = put_copy(strip, outline, Wanted::Best(mask), &mut words[..n], work);
-    ask::show(a)
+    let x = put_copy(strip, outline, Wanted::Best(mask), &mut words[..n], work);
+    let a = x.placing;
+    AskingTries {
+        asking: ask::show(a),
+        tries: x.tries,
+    }
 }
 
 // The commit call.
@@ -165,6 +172,7 @@ pub fn commit_bytes(strip: &mut [u8], outline: &[u8], p: Position, work: &mut [u
 {
     let mut words = [0u16; STRIP_ROOM];
     let n = lesser(strip.len() / 2, STRIP_ROOM);
-    let a = put_back(strip, outline, Wanted::At(p), &mut words[..n], work);
+    let x = put_back(strip, outline, Wanted::At(p), &mut words[..n], work);
+    let a = x.placing;
     commit::committed(a)
 }

@@ -188,7 +188,7 @@ unfolding OpenLeaves PlaceLeaves CommitLeaves LayLeaves
 any-numbers =
     record {
       open-may = λ l x n. record { answer = x .answer; strip = may-leave l (x .strip) n };
-      place-may = λ l x n. record { answer = x .answer; strip = may-leave l (x .strip) n; zeros = x .zeros };
+      place-may = λ l x n. record { answer = x .answer; counted = x .counted; strip = may-leave l (x .strip) n; zeros = x .zeros };
       commit-may = λ l x n. record { answer = x .answer; strip = may-leave l (x .strip) n; zeros = x .zeros };
       lay-may = λ l x n. record { answer = x .answer; output = x .output; strip = may-leave l (x .strip) n; zeros = x .zeros };
     }

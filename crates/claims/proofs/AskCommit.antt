@@ -119,7 +119,7 @@ itself s w = record { well-formed = w; long = refl; width = refl; resolution = r
 
 pub commit-as-asked : Commit-as-asked
 unfolding Commit-as-asked askAnswer
-commit-as-asked s o mask work p s₁ work₁ a work₂ b s' work' c =
+commit-as-asked s o mask work p n s₁ work₁ a work₂ b s' work' c =
     let there = shown-found (placeAnswer s o mask (length work)) p (a .answer) in
     let is : b ≡ commitAnswer s o p (length work₂) = c .answer ∙ ap (λ (z : List ℕ). commitAnswer z o p (length work₂)) (a .strip) in
     rw is (commit-found (itself s (placed-formed s o mask (length work) p there)) o mask (length work) p there (length work₂))
@@ -129,14 +129,15 @@ long-cleared work = length-replicate (length work) 0
 
 pub place-is-ask-and-commit : Place-is-ask-and-commit
 unfolding Place-is-ask-and-commit askAnswer PlaceLeaves CommitLeaves
-place-is-ask-and-commit s o mask work a s' work' = (forth a, back a)
+place-is-ask-and-commit s o mask work a n s' work' = (forth a, back a)
   where
-    forth : (a : Placing) → PlaceStep s o mask work a s' work' → AskThenCommit s o mask work a s' work'
+    forth : (a : Placing) → PlaceStep s o mask work a n s' work' → AskThenCommit s o mask work a n s' work'
     forth (NotPlaced r) t =
-        none-found (record { answer = ap shown (t .answer); strip = t .strip; zeros = t .zeros })
+        none-found (record { answer = ap shown (t .answer); counted = t .counted; strip = t .strip; zeros = t .zeros })
     forth (Placed p) t =
         let there = sym (t .answer) in
-        committed {s₁ = s} {work₁ = cleared work} (record { answer = ap shown (t .answer); strip = refl; zeros = refl })
+        committed {s₁ = s} {work₁ = cleared work}
+        (record { answer = ap shown (t .answer); counted = t .counted; strip = refl; zeros = refl })
         (record {
           answer =
               sym (commit-found-room (itself s (placed-formed s o mask (length work) p there)) o mask (length work) p there
@@ -145,12 +146,13 @@ place-is-ask-and-commit s o mask work a s' work' = (forth a, back a)
           zeros = t .zeros ∙ sym (ap (λ (n : ℕ). replicate n 0) (long-cleared work));
         })
 
-    back : (a : Placing) → AskThenCommit s o mask work a s' work' → PlaceStep s o mask work a s' work'
+    back : (a : Placing) → AskThenCommit s o mask work a n s' work' → PlaceStep s o mask work a n s' work'
     back a (none-found {r} t) =
-        record { answer = sym (shown-refused _ r (t .answer)); strip = t .strip; zeros = t .zeros }
-    back a (committed {p} {s₁} {work₁} t c) =
+        record { answer = sym (shown-refused _ r (t .answer)); counted = t .counted; strip = t .strip; zeros = t .zeros }
+    back a (committed {p} t c) =
         record {
           answer = sym (shown-found _ p (t .answer));
+          counted = t .counted;
           strip = rw (t .strip) at (c .strip);
           zeros = c .zeros ∙ ap cleared (t .zeros) ∙ ap (λ (n : ℕ). replicate n 0) (long-cleared work);
         }

@@ -21,7 +21,7 @@ use Rattle.defs.specs.Meaning.Job.{Used, CountPlaced}
 use Rattle.defs.specs.Meaning.Question.{Question21}
 use Rattle.defs.specs.Computing.Cells.{Rows}
 use Rattle.defs.specs.Computing.Words.{limitsNo, figuresNo, gapb, lengthb, recordsOf}
-use Rattle.defs.specs.Computing.Calls.{refusal, cleared, openAnswer, Left, OpenLeaves, OpenStep}
+use Rattle.defs.specs.Computing.Calls.{refusal, cleared, placeTries, openAnswer, Left, OpenLeaves, OpenStep}
 use Rattle.defs.specs.Computing.Sheets.{q1b, q2b, sheetNo, pieceRecords, sheetPieces}
 use Rattle.defs.specs.Computing.Lay.{fateOf, placedIn, usedIn, layEntries, layAnswer, layOutput, LayLeaves, LayStep}
 use Rattle.laws.proofs.Tests.{asked}
@@ -143,6 +143,7 @@ module _ {b : List ℕ} {g : ℕ} {s out work : List ℕ} {t : Totals} {s' out' 
         mask = pieceAt ps m .mask;
         work = work;
         answer = answerAt W R N g Q (length work) empty ps m;
+        tries = placeTries (between .strip m) (pieceAt ps m .outline) (pieceAt ps m .mask) (length work);
         work-after = cleared work;
       }
 

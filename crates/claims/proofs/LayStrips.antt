@@ -13,7 +13,7 @@ use Rattle.defs.specs.Meaning.Strip.{Limits, Length}
 use Rattle.defs.specs.Meaning.Sheet.{Piece}
 use Rattle.defs.specs.Computing.Cells.{Rows}
 use Rattle.defs.specs.Computing.Words.{written}
-use Rattle.defs.specs.Computing.Calls.{refusal, placeOn, cleared, Left, PlaceLeaves, PlaceStep}
+use Rattle.defs.specs.Computing.Calls.{refusal, placeOn, cleared, Left, PlaceLeaves, placeTries, PlaceStep}
 use Rattle.defs.specs.Computing.Lay.{fateOf, heldAfter, entriesFrom, heldFrom}
 use Rattle.tables.proofs.Written.{Writable, written-left}
 use Rattle.claims.proofs.Fates.{fate-of}
@@ -44,7 +44,7 @@ module _ (W R N g Q n : ℕ) where
   fates-are k held (p ∷ ps) zero = refl
   fates-are k held (p ∷ ps) (suc m) = fates-are (k + 1) (after held p) ps m
 
--- strips between which the calls go, the last of them s'
+-- strips between which the calls go, the last of them s'. Lay reports no tries; a call's are those that the definition counts.
 pub record Strips (W R N g Q words : ℕ) (work : List ℕ) (held : List (List Rows)) (ps : List Piece) (s' : List ℕ) : Type 0 where
   pub strip : ℕ → List ℕ
   pub first : Left W R N g words (λ k. getD held k []) (strip 0)
@@ -52,13 +52,13 @@ pub record Strips (W R N g Q words : ℕ) (work : List ℕ) (held : List (List R
   pub step :
       (m : ℕ) → m < length ps →
       PlaceStep (strip m) (pieceAt ps m .outline) (pieceAt ps m .mask) work (answerAt W R N g Q (length work) held ps m)
-      (strip (suc m)) (cleared work)
+      (placeTries (strip m) (pieceAt ps m .outline) (pieceAt ps m .mask) (length work)) (strip (suc m)) (cleared work)
 
 -- a strip before the one that a call leaves
 record Before (W R N g words : ℕ) (held : List (List Rows)) (p : Piece) (work : List ℕ) (a : Placing) (s' : List ℕ) : Type 0 where
   strip : List ℕ
   left : Left W R N g words (λ k. getD held k []) strip
-  step : PlaceStep strip (p .outline) (p .mask) work a s' (cleared work)
+  step : PlaceStep strip (p .outline) (p .mask) work a (placeTries strip (p .outline) (p .mask) (length work)) s' (cleared work)
 
 abbrev stripsFrom : List ℕ → (ℕ → List ℕ) → ℕ → List ℕ
 stripsFrom s f zero = s
@@ -77,6 +77,7 @@ module _ {W R N g Q words : ℕ} (limits : Limits W R N) (small : g ≤ mostGap)
         step =
             record {
               answer = e ∙ sym (answer-is held long (w .long) left (p .outline) (p .mask) (length work));
+              counted = refl;
               strip = leaves-is held long (w .long) left (p .outline) q s' l;
               zeros = refl;
             };
@@ -88,6 +89,7 @@ module _ {W R N g Q words : ℕ} (limits : Limits W R N) (small : g ≤ mostGap)
         step =
             record {
               answer = e ∙ sym (answer-is held long (w .long) l (p .outline) (p .mask) (length work));
+              counted = refl;
               strip = refl;
               zeros = refl;
             };
@@ -112,6 +114,8 @@ module _ {W R N g Q words : ℕ} (limits : Limits W R N) (small : g ≤ mostGap)
 
           step : (m : ℕ) → m < suc (length ps) →
               PlaceStep (stripsFrom (b .strip) (i .strip) m) (pieceAt (p ∷ ps) m .outline) (pieceAt (p ∷ ps) m .mask) work
-              (answerAt W R N g Q (length work) held (p ∷ ps) m) (i .strip m) (cleared work)
+              (answerAt W R N g Q (length work) held (p ∷ ps) m)
+              (placeTries (stripsFrom (b .strip) (i .strip) m) (pieceAt (p ∷ ps) m .outline) (pieceAt (p ∷ ps) m .mask) (length work))
+              (i .strip m) (cleared work)
           step zero h = b .step
           step (suc m) h = i .step m (omega arith)

@@ -7,6 +7,7 @@ pub mod Passing
 pub mod PlaceAnswers
 pub mod CommitAnswers
 pub mod AskCommit
+pub mod Tries
 pub mod Effects
 pub mod Distance
 pub mod Whole

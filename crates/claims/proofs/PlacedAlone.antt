@@ -56,10 +56,10 @@ unfolding commitAnswer
 commit-passed-5 s o p words true e q = e
 commit-passed-5 s o p words false e q = absurd (refused-nothing {r = refusal 5 0} (sym (q ∙ rw e refl)))
 
-pub placed-alone : {s o : List ℕ} {mask : ℕ} {work s' work' : List ℕ} {p : Position} →
-    PlaceStep s o mask work (Placed p) s' work' → PlacedAlone s o mask p s'
+pub placed-alone : {s o : List ℕ} {mask : ℕ} {work : List ℕ} {p : Position} {n : ℕ} {s' work' : List ℕ} →
+    PlaceStep s o mask work (Placed p) n s' work' → PlacedAlone s o mask p s'
 unfolding PlaceLeaves
-placed-alone {s} {o} {mask} {work} {s'} {work'} {p} x =
+placed-alone {s} {o} {mask} {work} {p} {n} {s'} x =
     let w = place-passed-5 s o mask (length work) p (wellFormedb s) refl (x .answer) in
     record {
       best = place-best (alone s w) o mask (length work) (Holds s) (held-alone s w) p (sym (x .answer));

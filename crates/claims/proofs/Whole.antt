@@ -343,7 +343,7 @@ module _ {W R N g : ℕ} {x : Calls} (t : Trace W R N g x) where
             step-of m (commit-call c) (h .0) (h .1) .answer ∙
             commit-granted (kept t m (omega (arith, h .0))) (c .outline) (c .at) _ (Occ m) (held-is m (omega (arith, h .0))) a f room;
         as-asked = commit-as-asked;
-        ask-as-place = λ m c b s' work' h t. step-of m (ask-call c) (h .0) (h .1) .answer ∙ ap shown (sym (t .answer));
+        ask-as-place = λ m c b n s' work' h t. step-of m (ask-call c) (h .0) (h .1) .answer ∙ ap shown (sym (t .answer));
         ask-keeps = λ m c h. step-of m (ask-call c) (h .0) (h .1) .strip;
         strip-is =
             λ m h.

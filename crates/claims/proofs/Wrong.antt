@@ -138,12 +138,16 @@ module _ (C : Cells) (none : (i j : ℕ) → ¬ C i j) where
   room-0 =
       room (atHeight 0) (best-is 10 2 10 0 6 empty C none-held table (omega arith) square 1 6 (asked .q7) (asked .q10) (atHeight 0) refl)
 
-module _ (lent : List ℕ) (strip : ℕ → List ℕ) where
-  searched : ¬ PlaceDemand3 10 2 10 0 (calls lent 1 (λ _. Refused (refusal 13 1)) strip)
-  unfolding Question13
-  searched d = d .no-position 0 (omega arith) .0 refl .1 (atHeight 0, fits-0 (calls lent 1 (λ _. Refused (refusal 13 1)) strip))
+not-later : ¬ Later 2 square (atHeight 1) (atHeight 0)
+unfolding Later runs
+not-later h = ⊎-elim (λ a. omega arith) (⊎-elim (λ a. omega (arith, a .1)) (λ a. omega (arith, a .2))) h
 
-  entered : strip 1 ≡ strip 0 → ¬ PlaceDemand3 10 2 10 0 (calls lent 1 (λ _. Placed (atHeight 0)) strip)
+module _ (lent : List ℕ) (tries : ℕ → ℕ) (strip : ℕ → List ℕ) where
+  searched : ¬ PlaceDemand3 10 2 10 0 (calls lent 1 (λ _. Refused (refusal 13 1)) tries strip)
+  unfolding Question13
+  searched d = d .no-position 0 (omega arith) .0 refl .1 (atHeight 0, fits-0 (calls lent 1 (λ _. Refused (refusal 13 1)) tries strip))
+
+  entered : strip 1 ≡ strip 0 → ¬ PlaceDemand3 10 2 10 0 (calls lent 1 (λ _. Placed (atHeight 0)) tries strip)
   entered e d =
       let held =
       d .strip-is 1 (omega arith) .holds 0 3 .1
@@ -151,7 +155,7 @@ module _ (lent : List ℕ) (strip : ℕ → List ℕ) where
       let o = d .strip-is 0 (omega arith) .holds 0 3 .0 (rw (← e) held) in
       omega (arith, o .is-earlier)
 
-  not-faked : strip 2 ≡ strip 1 → ¬ PlaceDemand3 10 2 10 0 (calls lent 2 stacked strip)
+  not-faked : strip 2 ≡ strip 1 → ¬ PlaceDemand3 10 2 10 0 (calls lent 2 stacked tries strip)
   unfolding Free
   not-faked e d =
       let held =
@@ -159,31 +163,27 @@ module _ (lent : List ℕ) (strip : ℕ → List ℕ) where
       (record { earlier = 1; is-earlier = omega arith; position = atHeight 4; places = refl; covered = cell-4 }) in
       d .free 1 (atHeight 4) (omega arith) refl 0 4 cell-4 (d .strip-is 1 (omega arith) .holds 0 4 .0 (rw (← e) held))
 
-  not-always-0 : ¬ PlaceDemand3 10 2 10 0 (calls lent 2 (λ _. Placed (atHeight 0)) strip)
+  not-always-0 : ¬ PlaceDemand3 10 2 10 0 (calls lent 2 (λ _. Placed (atHeight 0)) tries strip)
   not-always-0 d = d .no-point-in-two 0 1 (atHeight 0) (atHeight 0) 2 15 4 (omega arith) (omega arith) refl refl inside-0 inside-0
 
-  nearer : ¬ PlaceDemand3 10 2 10 1 (calls lent 2 stacked strip)
+  nearer : ¬ PlaceDemand3 10 2 10 1 (calls lent 2 stacked tries strip)
   nearer d =
       ⊎-elim (⊎-elim (λ a. omega arith) (λ a. omega arith)) (⊎-elim (λ a. omega arith) (λ a. omega arith))
       (d .points-apart 0 1 (atHeight 0) (atHeight 4) 2 15 4 2 17 4 (omega arith) (omega arith) refl refl inside-0 inside-4)
 
-  not-later : ¬ Later 2 square (atHeight 1) (atHeight 0)
-  unfolding Later runs
-  not-later h = ⊎-elim (λ a. omega arith) (⊎-elim (λ a. omega (arith, a .1)) (λ a. omega (arith, a .2))) h
-
-  best-only : ¬ PlaceDemand3 10 2 10 0 (calls lent 1 (λ _. Placed (atHeight 1)) strip)
+  best-only : ¬ PlaceDemand3 10 2 10 0 (calls lent 1 (λ _. Placed (atHeight 1)) tries strip)
   best-only d =
       not-later
-      (d .best 0 (atHeight 1) (omega arith) refl .first (atHeight 0) (fits-0 (calls lent 1 (λ _. Placed (atHeight 1)) strip))
+      (d .best 0 (atHeight 1) (omega arith) refl .first (atHeight 0) (fits-0 (calls lent 1 (λ _. Placed (atHeight 1)) tries strip))
       (λ e. omega (arith, ap (λ (p : Position). p .height) e)))
 
   refused-placed : {p : Position} (n k : ℕ) → ¬ (Refused (refusal n k) ≡ Placed p)
   refused-placed n k e = let z : _≡_ {A = ℕ} 0 1 = cc in omega arith
 
-  not-refused : (n k : ℕ) → length lent ≡ 39 → ¬ PlaceDemand3 10 2 10 0 (calls lent 1 (λ _. Refused (refusal n k)) strip)
+  not-refused : (n k : ℕ) → length lent ≡ 39 → ¬ PlaceDemand3 10 2 10 0 (calls lent 1 (λ _. Refused (refusal n k)) tries strip)
   unfolding Question5 Question13
   not-refused n k long d =
-      let x = calls lent 1 (λ _. Refused (refusal n k)) strip in
+      let x = calls lent 1 (λ _. Refused (refusal n k)) tries strip in
       let e : d .Q ≡ 6 = omega (arith, long, d .opened-with .words-are) in
       refused-placed n k
       (d .places-it 0 (omega arith)
@@ -206,30 +206,31 @@ fits-first call =
       free = λ i j c o. none-before call i j o;
     }
 
-module _ (lent : List ℕ) (strip : ℕ → List ℕ) where
-  asked-searched : ¬ Demand3 10 2 10 0 (repeated lent 1 (ask-call (askFor (NotFound (refusal 13 1)))) strip)
+six : (x : Calls) → length (x .lent) ≡ 39 → (d : Demand3 10 2 10 0 x) → d .Q ≡ 6
+six x long d = omega (arith, long, d .opened-with .words-are)
+
+module _ (lent : List ℕ) (tries : ℕ) (strip : ℕ → List ℕ) where
+  asked-searched : ¬ Demand3 10 2 10 0 (repeated lent 1 (ask-call (askFor (NotFound (refusal 13 1)) tries)) strip)
   unfolding Question13
   asked-searched d =
-      d .ask-no-position 0 (askFor (NotFound (refusal 13 1))) (omega arith, refl) .0 refl .1
-      (atHeight 0, fits-first (λ _. ask-call (askFor (NotFound (refusal 13 1)))))
+      d .ask-no-position 0 (askFor (NotFound (refusal 13 1)) tries) (omega arith, refl) .0 refl .1
+      (atHeight 0, fits-first (λ _. ask-call (askFor (NotFound (refusal 13 1)) tries)))
 
-  asked-best : ¬ Demand3 10 2 10 0 (repeated lent 1 (ask-call (askFor (Found (atHeight 1)))) strip)
+  asked-best : ¬ Demand3 10 2 10 0 (repeated lent 1 (ask-call (askFor (Found (atHeight 1)) tries)) strip)
   asked-best d =
-      not-later lent strip
-      (d .best-ask 0 (askFor (Found (atHeight 1))) (atHeight 1) (omega arith, refl) refl .first (atHeight 0)
-      (fits-first (λ _. ask-call (askFor (Found (atHeight 1)))))
+      not-later
+      (d .best-ask 0 (askFor (Found (atHeight 1)) tries) (atHeight 1) (omega arith, refl) refl .first (atHeight 0)
+      (fits-first (λ _. ask-call (askFor (Found (atHeight 1)) tries)))
       (λ e. omega (arith, ap (λ (p : Position). p .height) e)))
 
-  asked-kept : (a : Asking) → strip 1 ≢ strip 0 → ¬ Demand3 10 2 10 0 (repeated lent 1 (ask-call (askFor a)) strip)
-  asked-kept a n d = n (d .ask-keeps 0 (askFor a) (omega arith, refl))
+  asked-kept : (a : Asking) → strip 1 ≢ strip 0 → ¬ Demand3 10 2 10 0 (repeated lent 1 (ask-call (askFor a tries)) strip)
+  asked-kept a n d = n (d .ask-keeps 0 (askFor a tries) (omega arith, refl))
 
-  six : (x : Calls) → length (x .lent) ≡ 39 → (d : Demand3 10 2 10 0 x) → d .Q ≡ 6
-  six x long d = omega (arith, long, d .opened-with .words-are)
-
-  asked-refused : (n k : ℕ) → length lent ≡ 39 → ¬ Demand3 10 2 10 0 (repeated lent 1 (ask-call (askFor (NotFound (refusal n k)))) strip)
+  asked-refused : (n k : ℕ) → length lent ≡ 39 →
+      ¬ Demand3 10 2 10 0 (repeated lent 1 (ask-call (askFor (NotFound (refusal n k)) tries)) strip)
   unfolding Question5 Question13
   asked-refused n k long d =
-      let c = askFor (NotFound (refusal n k)) in
+      let c = askFor (NotFound (refusal n k)) tries in
       let call : ℕ → Call = λ _. ask-call c in
       not-found
       (d .finds-it 0 c (omega arith, refl) (record { q5 = (d .Q, d .strip-is 0 (omega arith) .well-formed); q7to12 = asked })
@@ -241,6 +242,7 @@ module _ (lent : List ℕ) (strip : ℕ → List ℕ) where
       not-found : {p : Position} → ¬ (NotFound (refusal n k) ≡ Found p)
       not-found e = let z : _≡_ {A = ℕ} 0 1 = cc in omega arith
 
+module _ (lent : List ℕ) (strip : ℕ → List ℕ) where
   -- each of these commits has put the square there
   lies : (m l : ℕ) → l < m → Lies (λ _. commit-call (commitAt 0 Committed)) m l square (atHeight 0)
   unfolding Puts

@@ -42,9 +42,9 @@ pub record OnlyNumbersOpen : Type 0 where
       {W R N g Q : ℕ} {s s₁ s₂ : List ℕ} → Length N Q (length s) → OpenStep W R N g s Opened s₁ → OpenStep W R N g s Opened s₂ →
       Renumbered Q s₁ s₂
   pub place-leaves :
-      {Q : ℕ} {s o : List ℕ} {mask : ℕ} {work : List ℕ} {p : Position} {s₁ work₁ s₂ work₂ : List ℕ} →
-      Length (columnsOf s) Q (length s) → PlaceStep s o mask work (Placed p) s₁ work₁ → PlaceStep s o mask work (Placed p) s₂ work₂ →
-      Renumbered Q s₁ s₂
+      {Q : ℕ} {s o : List ℕ} {mask : ℕ} {work : List ℕ} {p : Position} {n₁ n₂ : ℕ} {s₁ work₁ s₂ work₂ : List ℕ} →
+      Length (columnsOf s) Q (length s) → PlaceStep s o mask work (Placed p) n₁ s₁ work₁ →
+      PlaceStep s o mask work (Placed p) n₂ s₂ work₂ → Renumbered Q s₁ s₂
   pub commit-leaves :
       {Q : ℕ} {s o : List ℕ} {p : Position} {work s₁ work₁ s₂ work₂ : List ℕ} → Length (columnsOf s) Q (length s) →
       CommitStep s o p work Committed s₁ work₁ → CommitStep s o p work Committed s₂ work₂ → Renumbered Q s₁ s₂
@@ -58,9 +58,9 @@ pub record AnyNumbers : Type 0 where
       {W R N g Q : ℕ} {s s₁ s₂ : List ℕ} → Length N Q (length s) → OpenStep W R N g s Opened s₁ → Renumbered Q s₁ s₂ →
       OpenStep W R N g s Opened s₂
   pub place-may :
-      {Q : ℕ} {s o : List ℕ} {mask : ℕ} {work : List ℕ} {p : Position} {s₁ s₂ work' : List ℕ} →
-      Length (columnsOf s) Q (length s) → PlaceStep s o mask work (Placed p) s₁ work' → Renumbered Q s₁ s₂ →
-      PlaceStep s o mask work (Placed p) s₂ work'
+      {Q : ℕ} {s o : List ℕ} {mask : ℕ} {work : List ℕ} {p : Position} {n : ℕ} {s₁ s₂ work' : List ℕ} →
+      Length (columnsOf s) Q (length s) → PlaceStep s o mask work (Placed p) n s₁ work' → Renumbered Q s₁ s₂ →
+      PlaceStep s o mask work (Placed p) n s₂ work'
   pub commit-may :
       {Q : ℕ} {s o : List ℕ} {p : Position} {work s₁ s₂ work' : List ℕ} → Length (columnsOf s) Q (length s) →
       CommitStep s o p work Committed s₁ work' → Renumbered Q s₁ s₂ → CommitStep s o p work Committed s₂ work'

@@ -42,10 +42,11 @@ pub record Demand1 : Type 0 where
   pub cover-keeps :
       {o : List ℕ} {t R g : ℕ} {out out' : List ℕ} {r : Refusal} → CoverStep o t R g out (NotCovered r) out' → out' ≡ out
   pub place-keeps :
-      {s o : List ℕ} {mask : ℕ} {work s' work' : List ℕ} {r : Refusal} → PlaceStep s o mask work (NotPlaced r) s' work' → s' ≡ s
+      {s o : List ℕ} {mask : ℕ} {work : List ℕ} {r : Refusal} {n : ℕ} {s' work' : List ℕ} →
+      PlaceStep s o mask work (NotPlaced r) n s' work' → s' ≡ s
   -- an ask keeps the strip whatever is answered: "changes no strip word"
   pub ask-keeps :
-      {s o : List ℕ} {mask : ℕ} {work : List ℕ} {a : Asking} {s' work' : List ℕ} → AskStep s o mask work a s' work' → s' ≡ s
+      {s o : List ℕ} {mask : ℕ} {work : List ℕ} {a : Asking} {n : ℕ} {s' work' : List ℕ} → AskStep s o mask work a n s' work' → s' ≡ s
   pub commit-keeps :
       {s o : List ℕ} {p : Position} {work s' work' : List ℕ} {r : Refusal} → CommitStep s o p work (NotCommitted r) s' work' → s' ≡ s
   pub read-keeps :
@@ -68,11 +69,11 @@ pub record Demand1 : Type 0 where
       LayStep b g s out work (Laid t) s' out' work' → SheetHolds b ps → Past (4 * length ps) out out'
   -- whatever is answered
   pub place-clears :
-      {s o : List ℕ} {mask : ℕ} {work : List ℕ} {a : Placing} {s' work' : List ℕ} →
-      PlaceStep s o mask work a s' work' → Zero work work'
+      {s o : List ℕ} {mask : ℕ} {work : List ℕ} {a : Placing} {n : ℕ} {s' work' : List ℕ} →
+      PlaceStep s o mask work a n s' work' → Zero work work'
   pub ask-clears :
-      {s o : List ℕ} {mask : ℕ} {work : List ℕ} {a : Asking} {s' work' : List ℕ} →
-      AskStep s o mask work a s' work' → Zero work work'
+      {s o : List ℕ} {mask : ℕ} {work : List ℕ} {a : Asking} {n : ℕ} {s' work' : List ℕ} →
+      AskStep s o mask work a n s' work' → Zero work work'
   pub commit-clears :
       {s o : List ℕ} {p : Position} {work : List ℕ} {a : Committing} {s' work' : List ℕ} →
       CommitStep s o p work a s' work' → Zero work work'

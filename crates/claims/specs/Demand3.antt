@@ -129,8 +129,8 @@ pub record Demand3 (W R N g : ℕ) (x : Calls) : Type 0 where
   -- "Ask answers the position that place would give, or its number, and changes no strip word.": whatever a place call in its stead
   -- may answer by the definitions
   pub ask-as-place :
-      (m : ℕ) (c : AskCall) (b : Placing) (s' work' : List ℕ) → Ask x m c →
-      PlaceStep (x .strip m) (c .outline) (c .mask) (c .work) b s' work' → c .answer ≡ shown b
+      (m : ℕ) (c : AskCall) (b : Placing) (n : ℕ) (s' work' : List ℕ) → Ask x m c →
+      PlaceStep (x .strip m) (c .outline) (c .mask) (c .work) b n s' work' → c .answer ≡ shown b
   pub ask-keeps : (m : ℕ) (c : AskCall) → Ask x m c → x .strip (suc m) ≡ x .strip m
   -- demand 2 over the list: "The strip holds the cells of the placed pieces and no others", before call m and, at m = count,
   -- after the list

@@ -5,6 +5,7 @@ pub mod Distance
 pub mod Demand3
 pub mod Places
 pub mod Asking
+pub mod Tries
 pub mod Laying
 pub mod Numbers
 pub mod Wrong

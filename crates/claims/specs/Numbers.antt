@@ -248,13 +248,13 @@ pub record Demand1-numbers : Type 0 where
       Answers (coverQuestions o t R g (length out)) (covering a)
   -- "For one place call alone, a cell is occupied if a run of the lent strip holds it."
   pub place-asks :
-      {s o : List ℕ} {mask : ℕ} {work s' work' : List ℕ} {a : Placing} → PlaceStep s o mask work a s' work' →
+      {s o : List ℕ} {mask : ℕ} {work : List ℕ} {a : Placing} {n : ℕ} {s' work' : List ℕ} → PlaceStep s o mask work a n s' work' →
       Answers (placeQuestions s (Holds s) o mask (length work)) (placing a)
   pub place-alone :
-      {s o : List ℕ} {mask : ℕ} {work s' work' : List ℕ} {p : Position} → PlaceStep s o mask work (Placed p) s' work' →
-      PlacedAlone s o mask p s'
+      {s o : List ℕ} {mask : ℕ} {work : List ℕ} {p : Position} {n : ℕ} {s' work' : List ℕ} →
+      PlaceStep s o mask work (Placed p) n s' work' → PlacedAlone s o mask p s'
   pub ask-asks :
-      {s o : List ℕ} {mask : ℕ} {work s' work' : List ℕ} {a : Asking} → AskStep s o mask work a s' work' →
+      {s o : List ℕ} {mask : ℕ} {work : List ℕ} {a : Asking} {n : ℕ} {s' work' : List ℕ} → AskStep s o mask work a n s' work' →
       Answers (askQuestions s (Holds s) o mask (length work)) (asking a)
   pub commit-asks :
       {s o : List ℕ} {p : Position} {work s' work' : List ℕ} {a : Committing} → CommitStep s o p work a s' work' →

@@ -31,7 +31,7 @@ pub record PlaceTrace (W R N g : ℕ) (x : PlaceCalls) : Type 0 where
   pub place-step :
       (m : ℕ) → m < x .count →
       PlaceStep (x .strip m) (x .call m .outline) (x .call m .mask) (x .call m .work) (x .call m .answer)
-      (x .strip (suc m)) (x .call m .work-after)
+      (x .call m .tries) (x .strip (suc m)) (x .call m .work-after)
 
 -- Such a list is a list of calls.
 abbrev pub asCalls : PlaceCalls → Calls

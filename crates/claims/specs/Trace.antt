@@ -21,6 +21,7 @@ pub record PlaceCall : Type 0 where
   pub mask : ℕ
   pub work : List ℕ
   pub answer : Placing
+  pub tries : ℕ
   pub work-after : List ℕ
 
 pub record AskCall : Type 0 where
@@ -28,6 +29,7 @@ pub record AskCall : Type 0 where
   pub mask : ℕ
   pub work : List ℕ
   pub answer : Asking
+  pub tries : ℕ
   pub work-after : List ℕ
 
 pub record CommitCall : Type 0 where
@@ -44,8 +46,8 @@ pub data Call : Type 0 where
 
 -- The call's step, from strip s to strip s'.
 unfoldable pub Step : Call → List ℕ → List ℕ → Type 0
-Step (place-call c) s s' = PlaceStep s (c .outline) (c .mask) (c .work) (c .answer) s' (c .work-after)
-Step (ask-call c) s s' = AskStep s (c .outline) (c .mask) (c .work) (c .answer) s' (c .work-after)
+Step (place-call c) s s' = PlaceStep s (c .outline) (c .mask) (c .work) (c .answer) (c .tries) s' (c .work-after)
+Step (ask-call c) s s' = AskStep s (c .outline) (c .mask) (c .work) (c .answer) (c .tries) s' (c .work-after)
 Step (commit-call c) s s' = CommitStep s (c .outline) (c .at) (c .work) (c .answer) s' (c .work-after)
 
 -- A list of calls on one strip, by any program: the words lent to open; call 0 .. call (count - 1); strip m are the words before

@@ -22,7 +22,7 @@ unfolding PlaceLeaves CommitLeaves
 leaves-back s o s' p Committed l = l
 leaves-back s o s' p (NotCommitted r) l = l
 
-module _ {s o : List ℕ} {p : Position} {words : ℕ} {a : Placing} {s' : List ℕ} (x : Put s o (At p) words a s') where
+module _ {s o : List ℕ} {p : Position} {words : ℕ} {a : Placing} {n : ℕ} {s' : List ℕ} (x : Put s o (At p) words a n s') where
   abbrev c : Committing
   c = commitAnswer s o p words
 
@@ -39,8 +39,8 @@ module _ {s o : List ℕ} {p : Position} {words : ℕ} {a : Placing} {s' : List 
       (leaves-back s o s' p c (subst (λ (b : Placing). PlaceLeaves s o b s') is (x .leaves)))
 
 -- with the work buffer cleared, which kept its length
-pub step-of : {s o work work' s' : List ℕ} {p : Position} {a : Placing} {r : Committing} (used : List ℕ) →
-    Put s o (At p) (length work) a s' → r ≡ asCommit a → length used ≡ length work → work' ≡ cleared used →
+pub step-of : {s o work work' s' : List ℕ} {p : Position} {a : Placing} {n : ℕ} {r : Committing} (used : List ℕ) →
+    Put s o (At p) (length work) a n s' → r ≡ asCommit a → length used ≡ length work → work' ≡ cleared used →
     CommitStep s o p work r s' work'
 step-of {s} {o} {s' = s'} {p = p} used x q e z =
     record {

@@ -22,7 +22,8 @@ pub fn committed(a: Placing) -> Committing
 pub fn commit(strip: &mut [u16], o: &[u16], p: Position, work: &mut [u16]) -> Committing
     ensures { λ a. ⌜ CommitStep (now (strip .entry)) (now (o .entry)) p (now (work .entry)) a (now (strip .exit)) (now (work .exit)) ⌝ }
 {
-    let a = wanted::put(strip, o, Wanted::At(p), work);
+    let x = wanted::put(strip, o, Wanted::At(p), work);
     words::clear(work);
+    let a = x.placing;
     committed(a)
 }

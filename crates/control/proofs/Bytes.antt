@@ -6,9 +6,9 @@ use Prim.Native.Nat.{ℕ, zero, suc, min}
 use native.Mathlib.Omega.{arith}
 use lib.ListN.{length, take, replicate, length-take}
 use Rattle.defs.specs.Computing.Bytes.{wordsIn, mostWork, workIn, oddByte, bytesLeft}
-use Rattle.defs.specs.Computing.Calls.{cleared, placeAnswer, commitAnswer, OpenStep}
+use Rattle.defs.specs.Computing.Calls.{cleared, placeAnswer, placeTries, commitAnswer, OpenStep}
 use Rattle.defs.specs.Computing.Lay.{layEntries}
-use Rattle.mostruns.proofs.Work.{place-work, commit-work, lay-work}
+use Rattle.mostruns.proofs.Work.{place-work, tries-work, commit-work, lay-work}
 use Rattle.bytewords.proofs.Laws.{words-left, odd-left}
 use Rattle.control.specs.Lists.{PackedCall, PackedCalls, place-with, ask-with, commit-at, PackedStep, PackedTrace, Packed-demand3}
 use Rattle.control.specs.Bytes.{BytesAreWords, BytesStep, BytesTrace, callInWords, inWords, OddStays, Bytes-demand3}
@@ -79,6 +79,8 @@ bytes-are-words =
           );
       place-work = λ s o mask work e.
           ap (placeAnswer s o mask) (used-words work) ∙ place-work s o mask (length (wordsIn work)) e;
+      tries-work = λ s o mask work e.
+          ap (placeTries s o mask) (used-words work) ∙ tries-work s o mask (length (wordsIn work)) e;
       commit-work = λ s o p work e.
           ap (commitAnswer s o p) (used-words work) ∙ commit-work s o p (length (wordsIn work)) e;
       lay-work = λ b strip work. ap (layEntries b 0 strip) (used-words work) ∙ lay-work b strip (length (wordsIn work));
@@ -86,8 +88,8 @@ bytes-are-words =
 
 step-in-words : (c : PackedCall) (s s' : List ℕ) → BytesStep c s s' → PackedStep (callInWords c) (wordsIn s) (wordsIn s')
 unfolding BytesStep PackedStep callInWords
-step-in-words (place-with mask c) s s' x = bytes-are-words .same-words x .0
-step-in-words (ask-with mask c) s s' x = bytes-are-words .same-words x .0
+step-in-words (place-with mask tries c) s s' x = bytes-are-words .same-words x .0
+step-in-words (ask-with mask tries c) s s' x = bytes-are-words .same-words x .0
 step-in-words (commit-at p c) s s' x = bytes-are-words .same-words x .0
 
 in-words : {W R N g : ℕ} {x : PackedCalls} → BytesTrace W R N g x → PackedTrace W R N g (inWords x)

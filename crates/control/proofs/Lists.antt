@@ -138,12 +138,12 @@ committing-read {s} {o} {p} {work} {n} {s'} {work'} x = go (x .answer) (x .step)
 
 step-read : (c : PackedCall) (s s' : List ℕ) → PackedStep c s s' → Step (plainCall c) s s'
 unfolding PackedStep plainCall Step
-step-read (place-with mask c) s s' x =
-    subst (λ (a : Placing). PlaceStep s (c .outline) mask (c .work) a s' (c .work-after))
+step-read (place-with mask tries c) s s' x =
+    subst (λ (a : Placing). PlaceStep s (c .outline) mask (c .work) a tries s' (c .work-after))
     (placing-read s (c .outline) mask (length (c .work)) (c .answer) (x .answer) (x .packs) (demand1-numbers .place-asks (x .step)))
     (x .step)
-step-read (ask-with mask c) s s' x =
-    subst (λ (a : Asking). AskStep s (c .outline) mask (c .work) a s' (c .work-after))
+step-read (ask-with mask tries c) s s' x =
+    subst (λ (a : Asking). AskStep s (c .outline) mask (c .work) a tries s' (c .work-after))
     (asking-read s (c .outline) mask (length (c .work)) (c .answer) (x .answer) (x .packs) (demand1-numbers .ask-asks (x .step)))
     (x .step)
 step-read (commit-at p c) s s' x =

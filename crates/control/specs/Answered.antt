@@ -1,5 +1,5 @@
 -- Document 01's numbers for the C functions: what include/vikelodu.h reads from an answer of 64 bits is the answer to the questions of
--- the call. Assumes nothing.
+-- the call, whatever tries come with it. Assumes nothing.
 use mathlib.Core.Bool.{cond}
 use mathlib.Core.List.{List, [], _∷_}
 use Prim.Native.Nat.{ℕ}
@@ -41,10 +41,10 @@ pub record PackedNumbers : Type 0 where
       {o : List ℕ} {t R g : ℕ} {out : List ℕ} {n : ℕ} {out' : List ℕ} → CoverPacked o t R g out n out' →
       Answers (coverQuestions o t R g (length out)) (takenWide n)
   pub place-asks :
-      {s o : List ℕ} {mask : ℕ} {work : List ℕ} {n : ℕ} {s' work' : List ℕ} → PlacePacked s o mask work n s' work' →
+      {s o : List ℕ} {mask : ℕ} {work : List ℕ} {n tries : ℕ} {s' work' : List ℕ} → PlacePacked s o mask work n tries s' work' →
       Answers (placeQuestions s (Holds s) o mask (length work)) (taken 3 n)
   pub ask-asks :
-      {s o : List ℕ} {mask : ℕ} {work : List ℕ} {n : ℕ} {s' work' : List ℕ} → AskPacked s o mask work n s' work' →
+      {s o : List ℕ} {mask : ℕ} {work : List ℕ} {n tries : ℕ} {s' work' : List ℕ} → AskPacked s o mask work n tries s' work' →
       Answers (askQuestions s (Holds s) o mask (length work)) (taken 3 n)
   pub commit-asks :
       {s o : List ℕ} {p : Position} {work : List ℕ} {n : ℕ} {s' work' : List ℕ} → CommitPacked s o p work n s' work' →

@@ -7,7 +7,7 @@ use Prim.Native.Nat.{ℕ, suc, _<_}
 use lib.ListN.{length}
 use Rattle.defs.specs.declared.Position.{Position}
 use Rattle.defs.specs.Meaning.Strip.{gapOf}
-use Rattle.defs.specs.Computing.Calls.{cleared, placeAnswer, commitAnswer}
+use Rattle.defs.specs.Computing.Calls.{cleared, placeAnswer, placeTries, commitAnswer}
 use Rattle.defs.specs.Computing.Lay.{layEntries}
 use Rattle.defs.specs.Computing.Bytes.{wordsIn, workIn, oddByte, OnBytes}
 use Rattle.packing.specs.Packed.{first16}
@@ -34,10 +34,13 @@ pub record BytesAreWords : Type 1 where
       LayBytesPacked sheet g strip out work n strip' out' work' →
       LayPacked sheet g (wordsIn strip) (wordsIn out) (workIn work) n (wordsIn strip') (wordsIn out') (workIn work') ×
       OddStays strip strip' × OddStays out out' × (wordsIn work' ≡ cleared (wordsIn work)) × OddStays work work'
-  -- with no gap the answers are those of a call that is lent all words of the work buffer
+  -- with no gap the answers, and the tries, are those of a call that is lent all words of the work buffer
   pub place-work :
       (s o : List ℕ) (mask : ℕ) (work : List ℕ) → gapOf s ≡ 0 →
       placeAnswer s o mask (length (workIn work)) ≡ placeAnswer s o mask (length (wordsIn work))
+  pub tries-work :
+      (s o : List ℕ) (mask : ℕ) (work : List ℕ) → gapOf s ≡ 0 →
+      placeTries s o mask (length (workIn work)) ≡ placeTries s o mask (length (wordsIn work))
   pub commit-work :
       (s o : List ℕ) (p : Position) (work : List ℕ) → gapOf s ≡ 0 →
       commitAnswer s o p (length (workIn work)) ≡ commitAnswer s o p (length (wordsIn work))
@@ -47,8 +50,8 @@ pub record BytesAreWords : Type 1 where
 
 -- the contract of the C function that is called with buffers of bytes
 unfoldable pub BytesStep : PackedCall → List ℕ → List ℕ → Type 0
-BytesStep (place-with mask c) s s' = PlaceBytesPacked s (c .outline) mask (c .work) (c .answer) s' (c .work-after)
-BytesStep (ask-with mask c) s s' = AskBytesPacked s (c .outline) mask (c .work) (c .answer) s' (c .work-after)
+BytesStep (place-with mask tries c) s s' = PlaceBytesPacked s (c .outline) mask (c .work) (c .answer) tries s' (c .work-after)
+BytesStep (ask-with mask tries c) s s' = AskBytesPacked s (c .outline) mask (c .work) (c .answer) tries s' (c .work-after)
 BytesStep (commit-at p c) s s' = CommitBytesPacked s (c .outline) p (c .work) (c .answer) s' (c .work-after)
 
 -- a list of such calls, the open granted
@@ -69,8 +72,8 @@ buffersInWords c =
     }
 
 unfoldable pub callInWords : PackedCall → PackedCall
-callInWords (place-with mask c) = place-with mask (buffersInWords c)
-callInWords (ask-with mask c) = ask-with mask (buffersInWords c)
+callInWords (place-with mask tries c) = place-with mask tries (buffersInWords c)
+callInWords (ask-with mask tries c) = ask-with mask tries (buffersInWords c)
 callInWords (commit-at p c) = commit-at p (buffersInWords c)
 
 abbrev pub inWords : PackedCalls → PackedCalls

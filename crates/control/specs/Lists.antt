@@ -34,23 +34,23 @@ unpackedAsk n = shown (unpacked n)
 abbrev pub unpackedCommit : ℕ → Committing
 unpackedCommit n = cond (eqb (first16 n) 0) Committed (NotCommitted (record { number = first16 n; ordinal = second16 n }))
 
--- what each of the three is lent and answers
+-- what each of place, ask and commit is lent and answers
 pub record Packed : Type 0 where
   pub outline : List ℕ
   pub work : List ℕ
   pub answer : ℕ
   pub work-after : List ℕ
 
--- beside it a mask, or the position of a commit
+-- beside it a mask and the tries reported, or the position of a commit
 pub data PackedCall : Type 0 where
-  place-with : ℕ → Packed → PackedCall
-  ask-with : ℕ → Packed → PackedCall
+  place-with : ℕ → ℕ → Packed → PackedCall
+  ask-with : ℕ → ℕ → Packed → PackedCall
   commit-at : Position → Packed → PackedCall
 
 -- the contract of the C function that is called, from strip s to strip s'
 unfoldable pub PackedStep : PackedCall → List ℕ → List ℕ → Type 0
-PackedStep (place-with mask c) s s' = PlacePacked s (c .outline) mask (c .work) (c .answer) s' (c .work-after)
-PackedStep (ask-with mask c) s s' = AskPacked s (c .outline) mask (c .work) (c .answer) s' (c .work-after)
+PackedStep (place-with mask tries c) s s' = PlacePacked s (c .outline) mask (c .work) (c .answer) tries s' (c .work-after)
+PackedStep (ask-with mask tries c) s s' = AskPacked s (c .outline) mask (c .work) (c .answer) tries s' (c .work-after)
 PackedStep (commit-at p c) s s' = CommitPacked s (c .outline) p (c .work) (c .answer) s' (c .work-after)
 
 pub record PackedCalls : Type 0 where
@@ -67,12 +67,26 @@ pub record PackedTrace (W R N g : ℕ) (x : PackedCalls) : Type 0 where
   pub step : (m : ℕ) → m < x .count → PackedStep (x .call m) (x .strip m) (x .strip (suc m))
 
 unfoldable pub plainCall : PackedCall → Call
-plainCall (place-with mask c) =
+plainCall (place-with mask tries c) =
     place-call
-    (record { outline = c .outline; mask = mask; work = c .work; answer = unpacked (c .answer); work-after = c .work-after })
-plainCall (ask-with mask c) =
+    (record {
+      outline = c .outline;
+      mask = mask;
+      work = c .work;
+      answer = unpacked (c .answer);
+      tries = tries;
+      work-after = c .work-after;
+    })
+plainCall (ask-with mask tries c) =
     ask-call
-    (record { outline = c .outline; mask = mask; work = c .work; answer = unpackedAsk (c .answer); work-after = c .work-after })
+    (record {
+      outline = c .outline;
+      mask = mask;
+      work = c .work;
+      answer = unpackedAsk (c .answer);
+      tries = tries;
+      work-after = c .work-after;
+    })
 plainCall (commit-at p c) =
     commit-call
     (record { outline = c .outline; at = p; work = c .work; answer = unpackedCommit (c .answer); work-after = c .work-after })

@@ -4,6 +4,7 @@
 use mathlib.Core.Path.{_≡_, refl}
 use mathlib.Core.Bool.{true, false}
 use mathlib.Core.List.{List, [], _∷_, _++_}
+use mathlib.Core.Option.{some}
 use Prim.Native.Nat.{ℕ}
 use lib.ListN.{replicate, take}
 use Rattle.defs.specs.declared.Position.{Position}
@@ -21,7 +22,8 @@ use Rattle.defs.specs.Meaning.Sheet.{Piece, listWords}
 use Rattle.defs.specs.Computing.Cells.{Rows, pieceRuns}
 use Rattle.defs.specs.Computing.Words.{wellFormedb}
 use Rattle.defs.specs.Computing.Search.{position}
-use Rattle.defs.specs.Computing.Calls.{refusal, openAnswer, coverAnswer, coverOutput, placeAnswer, askAnswer, commitAnswer, openedStrip, placedStrip, listAnswers, Lent}
+use Rattle.defs.specs.Computing.Walk.{turnWalk, walkEnd, triesBound}
+use Rattle.defs.specs.Computing.Calls.{refusal, openAnswer, coverAnswer, coverOutput, placeAnswer, askAnswer, commitAnswer, openedStrip, placedStrip, listAnswers, listTries, Lent}
 use Rattle.defs.specs.Computing.Sheets.{sheetBytes, readAnswer, readOutput, writeAnswer, writeOutput}
 use Rattle.defs.specs.Computing.Lay.{layAnswer, layOutput}
 use Rattle.defs.specs.Computing.Ascii.{ascii}
@@ -515,3 +517,59 @@ gap-401 = refl
 lay-21 : layAnswer (sheetBytes 10 2 10 three) 401 39 12 30 ∷ layAnswer (sheetBytes 10 2 10 three) 401 3 12 30 ∷ layAnswer (sheetBytes 10 2 0 []) 401 39 12 30 ∷ [] ≡ NotLaid (refusal 21 0) ∷ NotLaid (refusal 21 0) ∷ NotLaid (refusal 17 0) ∷ []
 unfolding runs three
 lay-21 = refl
+
+-- Request S-5: tries. Three S, W 10, R 2, N 10: the first is free at once; the second jumps onto the first; the third finds columns 0 and 1
+-- too full at the first jump, which is past the top and no try. So it is with Q 3, where 14 refuses the third.
+three-squares-tries : listTries 10 2 10 0 6 (piece S 1 ∷ piece S 1 ∷ piece S 1 ∷ []) ≡ 1 ∷ 2 ∷ 3 ∷ []
+unfolding runs
+three-squares-tries = refl
+
+three-squares-tries-3 : listTries 10 2 10 0 3 (piece S 1 ∷ piece S 1 ∷ piece S 1 ∷ []) ≡ 1 ∷ 2 ∷ 3 ∷ []
+unfolding runs
+three-squares-tries-3 = refl
+
+-- The walk of the third: one height in each of three columns.
+third-square-walk : turnWalk 10 2 10 0 ((0 to 8 ∷ []) ∷ (0 to 8 ∷ []) ∷ replicate 8 []) S 0 ≡ (0 ∷ []) ∷ (0 ∷ []) ∷ (0 ∷ []) ∷ []
+unfolding runs
+third-square-walk = refl
+
+third-square-end : walkEnd 10 2 10 0 ((0 to 8 ∷ []) ∷ (0 to 8 ∷ []) ∷ replicate 8 []) S 0 ≡ some (position 0 2 0)
+unfolding runs
+third-square-end = refl
+
+-- 13 has its tries, and what a check before 13 refuses has none: U after T with N 5; then a bad mask, no inside, a short work buffer.
+refused-tries : listTries 2 1 5 0 6 (piece T 1 ∷ piece U 1 ∷ piece U 0 ∷ piece flat 1 ∷ lent U 1 8 ∷ []) ≡ 1 ∷ 3 ∷ 0 ∷ 0 ∷ 0 ∷ []
+unfolding runs
+refused-tries = refl
+
+-- A height past the top, even height 0, is no try: the bar on W 4 is tried in turn 0 alone, on W 1 in no turn. S on one column of
+-- R 2 is on the strip in none.
+bar-tries : listTries 4 2 10 0 6 (piece bar 3 ∷ []) ++ listTries 6 2 10 0 6 (piece bar 3 ∷ []) ++ listTries 1 2 10 0 6 (piece bar 3 ∷ []) ++ listTries 10 2 1 0 6 (piece S 1 ∷ []) ≡ 1 ∷ 2 ∷ 0 ∷ 0 ∷ []
+unfolding runs
+bar-tries = refl
+
+-- The jump takes off the piece run's own low, and the first clashing run by column decides, not the highest that is met: T in turn 1
+-- (runs 1 to 3 and 0 to 3) over 0 to 2 and 0 to 5 goes to 1 by its first column and then to 5 by its second.
+own-low-walk : turnWalk 9 1 2 0 ((0 to 2 ∷ []) ∷ (0 to 5 ∷ []) ∷ []) T 1 ≡ (0 ∷ 1 ∷ 5 ∷ []) ∷ []
+unfolding runs
+own-low-walk = refl
+
+-- Of two runs that are met the lowest sends the piece on; of two runs of the piece that clash, the lower one.
+lowest-walk : turnWalk 9 2 2 0 ((0 to 1 ∷ 2 to 3 ∷ []) ∷ [] ∷ []) S 0 ≡ (0 ∷ 1 ∷ 3 ∷ []) ∷ []
+unfolding runs
+lowest-walk = refl
+
+lower-run-walk : turnWalk 20 3 2 0 ([] ∷ (0 to 6 ∷ []) ∷ []) (0 ∷ 0 ∷ 6 ∷ 0 ∷ 6 ∷ 1 ∷ 3 ∷ 1 ∷ 3 ∷ 4 ∷ 6 ∷ 4 ∷ 6 ∷ 5 ∷ 0 ∷ 5 ∷ []) 0 ≡ (0 ∷ 6 ∷ []) ∷ []
+unfolding runs
+lower-run-walk = refl
+
+-- The bound of the third square: three pairs, two runs of the piece, two on the strip.
+third-square-bound : triesBound 10 2 10 0 ((0 to 8 ∷ []) ∷ (0 to 8 ∷ []) ∷ replicate 8 []) S 1 ≡ 15
+unfolding runs
+third-square-bound = refl
+
+-- With a gap of 1 the third square is tried in one column more; with 13 and a gap of 3, whose cells reach past the strip's end, there is
+-- one try in each of three columns.
+gap-tries : listTries 10 2 10 1 40 (piece S 1 ∷ piece S 1 ∷ piece S 1 ∷ []) ++ listTries 4 2 4 3 40 (piece S 1 ∷ piece S 1 ∷ []) ≡ 1 ∷ 2 ∷ 4 ∷ 1 ∷ 3 ∷ []
+unfolding runs
+gap-tries = refl

@@ -3,6 +3,7 @@ pub mod Test
 pub mod Cells
 pub mod Words
 pub mod Search
+pub mod Walk
 pub mod Calls
 pub mod Sheets
 pub mod Lay

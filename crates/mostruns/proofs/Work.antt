@@ -15,7 +15,7 @@ use Rattle.defs.specs.Meaning.Sheet.{Piece}
 use Rattle.defs.specs.Computing.Test.{ask}
 use Rattle.defs.specs.Computing.Cells.{Rows, mostRuns}
 use Rattle.defs.specs.Computing.Words.{wellFormedb}
-use Rattle.defs.specs.Computing.Calls.{q9b, q12b, outlineNo, placeOn, placeAnswer, commitOn, commitAnswer}
+use Rattle.defs.specs.Computing.Calls.{q9b, q12b, outlineNo, placeOn, placeAnswer, commitOn, commitAnswer, triesOn, placeTries}
 use Rattle.defs.specs.Computing.Lay.{entriesFrom, layEntries}
 use Rattle.defs.specs.Computing.Bytes.{mostWork}
 use Rattle.laws.proofs.Questions.{question-7, question-8}
@@ -56,6 +56,13 @@ module _ (W R N Q n : ℕ) where
       let first = outlineNo o (q9b mask) mask R in
       ask-same (eqb first 0) _ _ _ (λ e. rw (room-for o mask (eqb-true first 0 e)))
 
+  tries-same : (held : List (List Rows)) (o : List ℕ) (mask : ℕ) →
+      triesOn W R N 0 held o mask (min n mostWork) ≡ triesOn W R N 0 held o mask n
+  unfolding triesOn
+  tries-same held o mask =
+      let first = outlineNo o (q9b mask) mask R in
+      ask-same (eqb first 0) _ _ _ (λ e. rw (room-for o mask (eqb-true first 0 e)))
+
   commit-same : (held : List (List Rows)) (o : List ℕ) (p : Position) →
       commitOn W R N 0 Q held o p (min n mostWork) ≡ commitOn W R N 0 Q held o p n
   unfolding commitOn
@@ -75,6 +82,10 @@ module _ (W R N Q n : ℕ) where
 pub place-work : (s o : List ℕ) (mask n : ℕ) → gapOf s ≡ 0 → placeAnswer s o mask (min n mostWork) ≡ placeAnswer s o mask n
 unfolding placeAnswer
 place-work s o mask n none = ask-same (wellFormedb s) _ _ _ (λ e. rw none (place-same _ _ _ _ n _ o mask))
+
+pub tries-work : (s o : List ℕ) (mask n : ℕ) → gapOf s ≡ 0 → placeTries s o mask (min n mostWork) ≡ placeTries s o mask n
+unfolding placeTries
+tries-work s o mask n none = ask-same (wellFormedb s) _ _ _ (λ e. rw none (tries-same _ _ _ 0 n _ o mask))
 
 pub commit-work : (s o : List ℕ) (p : Position) (n : ℕ) → gapOf s ≡ 0 → commitAnswer s o p (min n mostWork) ≡ commitAnswer s o p n
 unfolding commitAnswer

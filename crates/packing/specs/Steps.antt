@@ -1,4 +1,5 @@
--- A step of each call, its answer packed in one number of 64 bits: the contracts of the C functions. Assumes nothing.
+-- A step of each call, its answer packed in one number of 64 bits, and the tries of place and ask beside it: the contracts of the C
+-- functions. Assumes nothing.
 use mathlib.Core.List.{List}
 use Prim.Native.Nat.{ℕ}
 use Rattle.defs.specs.declared.Laying.{Laying}
@@ -34,15 +35,15 @@ pub record CoverPacked (o : List ℕ) (t R g : ℕ) (out : List ℕ) (n : ℕ) (
   pub packs : PacksWide n (covering answer)
 
 -- turn, column, height after the number 0
-pub record PlacePacked (s o : List ℕ) (mask : ℕ) (work : List ℕ) (n : ℕ) (s' work' : List ℕ) : Type 0 where
+pub record PlacePacked (s o : List ℕ) (mask : ℕ) (work : List ℕ) (n tries : ℕ) (s' work' : List ℕ) : Type 0 where
   pub answer : Placing
-  pub step : PlaceStep s o mask work answer s' work'
+  pub step : PlaceStep s o mask work answer tries s' work'
   pub packs : Packs n (placing answer)
 
 -- turn, column, height after the number 0
-pub record AskPacked (s o : List ℕ) (mask : ℕ) (work : List ℕ) (n : ℕ) (s' work' : List ℕ) : Type 0 where
+pub record AskPacked (s o : List ℕ) (mask : ℕ) (work : List ℕ) (n tries : ℕ) (s' work' : List ℕ) : Type 0 where
   pub answer : Asking
-  pub step : AskStep s o mask work answer s' work'
+  pub step : AskStep s o mask work answer tries s' work'
   pub packs : Packs n (asking answer)
 
 pub record CommitPacked (s o : List ℕ) (p : Position) (work : List ℕ) (n : ℕ) (s' work' : List ℕ) : Type 0 where
@@ -93,11 +94,13 @@ pub record OpenBytesPacked (W R N g : ℕ) (strip : List ℕ) (n : ℕ) (strip' 
   pub step : OpenBytesStep W R N g strip answer strip'
   pub packs : Packs n (opening answer)
 
-abbrev pub PlaceBytesPacked : List ℕ → List ℕ → ℕ → List ℕ → ℕ → List ℕ → List ℕ → Type 0
-PlaceBytesPacked strip o mask work n strip' work' = OnBytes (λ s v w s' w'. PlacePacked s v mask w n s' w') strip o work strip' work'
+abbrev pub PlaceBytesPacked : List ℕ → List ℕ → ℕ → List ℕ → ℕ → ℕ → List ℕ → List ℕ → Type 0
+PlaceBytesPacked strip o mask work n tries strip' work' =
+    OnBytes (λ s v w s' w'. PlacePacked s v mask w n tries s' w') strip o work strip' work'
 
-abbrev pub AskBytesPacked : List ℕ → List ℕ → ℕ → List ℕ → ℕ → List ℕ → List ℕ → Type 0
-AskBytesPacked strip o mask work n strip' work' = OnBytes (λ s v w s' w'. AskPacked s v mask w n s' w') strip o work strip' work'
+abbrev pub AskBytesPacked : List ℕ → List ℕ → ℕ → List ℕ → ℕ → ℕ → List ℕ → List ℕ → Type 0
+AskBytesPacked strip o mask work n tries strip' work' =
+    OnBytes (λ s v w s' w'. AskPacked s v mask w n tries s' w') strip o work strip' work'
 
 abbrev pub CommitBytesPacked : List ℕ → List ℕ → Position → List ℕ → ℕ → List ℕ → List ℕ → Type 0
 CommitBytesPacked strip o p work n strip' work' = OnBytes (λ s v w s' w'. CommitPacked s v p w n s' w') strip o work strip' work'

@@ -13,7 +13,7 @@ ghost use Rattle.piece.specs.Boards.{heldBy, Boards};
 ghost use Rattle.piece.specs.Pieces.{PlacedBy, PieceLaid};
 use defs::Entry;
 use defs::Figures;
-use defs::Placing;
+use defs::PlacingTries;
 use fates::Tally;
 use records::Chain;
 use search::Way;
@@ -34,14 +34,14 @@ fn place_current(
     mask: u16,
     lower: usize,
     work: &mut [u16],
-) -> Placing
+) -> PlacingTries
     requires { ⌜ Boards second (now first) (now lows) (now highs) (now first2) (now lows2) (now highs2) (g .width) (g .resolution) (g .columns) gap q ⌝
         ∗ ⌜ Ordered (now o) (q9b mask) mask ⌝
         ∗ ⌜ NoneBefore (g .width) (g .resolution) (g .columns) gap
         (heldBy second (now first) (now lows) (now highs) (now first2) (now lows2) (now highs2) (g .columns)) (now o) mask lower ⌝ }
     ensures { λ a. ⌜ PlacedBy second (now (first .entry)) (now (lows .entry)) (now (highs .entry)) (now (first2 .entry)) (now (lows2 .entry)) (now (highs2 .entry))
         (now (first .exit)) (now (lows .exit)) (now (highs .exit)) (now (first2 .exit)) (now (lows2 .exit)) (now (highs2 .exit))
-        (now (o .entry)) (g .width) (g .resolution) (g .columns) gap q mask (length (now (work .entry))) a ⌝ }
+        (now (o .entry)) (g .width) (g .resolution) (g .columns) gap q mask (length (now (work .entry))) (a .placing) ⌝ }
 {
     if second {
         position::place_asked(
@@ -106,7 +106,7 @@ fn lay_outline(
         (now (first .exit)) (now (lows .exit)) (now (highs .exit)) (now (first2 .exit)) (now (lows2 .exit)) (now (highs2 .exit))
         (now (out .entry)) (now (out .exit)) (now (o .entry)) (g .width) (g .resolution) (g .columns) gap q mask (length (now (work .entry))) t r ⌝ }
 {
-    let a = place_current(
+    let x = place_current(
         g,
         gap,
         q,
@@ -122,6 +122,7 @@ fn lay_outline(
         lower,
         work,
     );
+    let a = x.placing;
     let e = fates::end_of(o, g.resolution, a);
     fates::put_entry(
         Entry {

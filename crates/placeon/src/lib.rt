@@ -1,9 +1,9 @@
 // Place on the runs of a strip: questions 7 to 14, and the next table with the piece in it.
 
 ghost use lib.ListN.{length};
-ghost use Rattle.position.specs.Table.{Tabled, PlacedOn};
+ghost use Rattle.position.specs.Table.{Tabled, CountedOn};
 use defs::Figures;
-use defs::Placing;
+use defs::PlacingTries;
 use search::Way;
 
 // Questions 7 to 14 of an outline, on a table that holds the runs of a strip; where the piece is placed, the next table holds them
@@ -22,14 +22,14 @@ pub fn place_on(
     first2: &mut [u16],
     lows2: &mut [u16],
     highs2: &mut [u16],
-) -> Placing
+) -> PlacingTries
     requires { ⌜ Tabled (now first) (now lows) (now highs) (now first2) (now lows2) (now highs2) (g .width) (g .resolution) (g .columns) gap q ⌝ }
-    ensures { λ a. ⌜ PlacedOn (now (first .entry)) (now (lows .entry)) (now (highs .entry)) (now (first2 .exit)) (now (lows2 .exit)) (now (highs2 .exit)) (now (o .entry)) (g .width) (g .resolution) (g .columns) gap q mask (length (now (work .entry))) a ⌝ }
+    ensures { λ a. ⌜ CountedOn (now (first .entry)) (now (lows .entry)) (now (highs .entry)) (now (first2 .exit)) (now (lows2 .exit)) (now (highs2 .exit)) (now (o .entry)) (g .width) (g .resolution) (g .columns) gap q mask (length (now (work .entry))) way (a .placing) (a .tries) ⌝ }
 {
     let ninth = checks::nine(mask);
     let no = asked::order_no(o, ninth, mask);
     if no != 0 {
-        return position::refused(no, 1);
+        return position::untried(no, 1);
     }
     position::place_asked(
         g,

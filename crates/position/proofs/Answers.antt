@@ -12,11 +12,13 @@ use borrow.Author.Tests.{ne-eqb, le-leb, lt-leb, not-true}
 use Rattle.defs.specs.declared.Position.{Position}
 use Rattle.defs.specs.declared.Placing.{Placing}
 use Rattle.defs.specs.declared.Placing.the-variants.{Placed, Refused}
+use Rattle.defs.specs.declared.PlacingTries.{PlacingTries}
 use Rattle.defs.specs.Meaning.Question.{Question10, Question12}
 use Rattle.defs.specs.Computing.Test.{ask}
 use Rattle.defs.specs.Computing.Cells.{Rows, mostRuns}
 use Rattle.defs.specs.Computing.Search.{bestBelow}
-use Rattle.defs.specs.Computing.Calls.{refusal, q9b, q11b, q12b, q14b, outlineNo, choose, placeOn}
+use Rattle.defs.specs.Computing.Walk.{triesBelow}
+use Rattle.defs.specs.Computing.Calls.{refusal, q9b, q11b, q12b, q14b, outlineNo, choose, placeOn, triesOn}
 use Rattle.laws.proofs.Questions.{question-7}
 use Rattle.laws.proofs.Tests.{not-decides}
 use Rattle.geom.proofs.Checks.{question-10, question-12, most-same, runs-of-turn, none-no-is, has-side}
@@ -27,32 +29,42 @@ use Rattle.outline.specs.Vertex.{BoundsOf}
 use Rattle.tables.specs.Flat.{Laid, tableOf}
 use Rattle.tables.proofs.Flats.{table-flat}
 use Rattle.tables.proofs.Searching.{best-found}
+use Rattle.search.specs.declared.Way.{Way}
+use Rattle.search.specs.declared.Way.the-variants.{Walk as ByWalk, Round}
 use Rattle.ranks.specs.declared.Tried.{Tried}
 use Rattle.ranks.specs.declared.Ranked.{Ranked}
 use Rattle.ranks.specs.declared.Choice.{Choice}
 use Rattle.ranks.specs.declared.Choice.the-variants.{Chosen, Nowhere}
-use Rattle.best.specs.Choice.{placeOf, Ready, TurnsTo}
-use Rattle.position.specs.Table.{Tabled, Enterable, EntersAt, PlacedOn}
+use Rattle.best.specs.Choice.{placeOf, Ready, TriesAre, TurnsTo}
+use Rattle.best.proofs.Choices.{tries-same}
+use Rattle.position.specs.Table.{Tabled, Enterable, EntersAt, PlacedOn, CountedOn}
 
 module _ (W R N g Q : ℕ) (held : List (List Rows)) (o : List ℕ) (mask words : ℕ) where
-  -- a "no" to one of 7 to 10
-  pub to-ten : {r : ℕ} → 1 ≤ R → FirstNo o (q9b mask) mask r → r ≢ 0 → Refused (refusal r 1) ≡ placeOn W R N g Q held o mask words
-  unfolding placeOn
-  to-ten {r} Rpos f n =
-      let e = f .every R Rpos in
-      let z : eqb (outlineNo o (q9b mask) mask R) 0 ≡ false = ap (λ (m : ℕ). eqb m 0) (sym e) ∙ ne-eqb r 0 n in
-      rw (z, sym e) refl
+  -- a "no" before 13, and so no tries
+  abbrev pub Untried : ℕ → Type 0
+  Untried n = (Refused (refusal n 1) ≡ placeOn W R N g Q held o mask words) × (triesOn W R N g held o mask words ≡ 0)
 
-  module _ {s : Tried} (Rpos : 1 ≤ R) (y : Ordered o (q9b mask) mask) (tried : TurnsTo W R N g held o mask 4 words s) where
+  outline-no : {n : ℕ} → outlineNo o (q9b mask) mask R ≡ n → n ≢ 0 → Untried n
+  unfolding placeOn triesOn
+  outline-no {n} e z =
+      let f : eqb (outlineNo o (q9b mask) mask R) 0 ≡ false = ap (λ (m : ℕ). eqb m 0) e ∙ ne-eqb n 0 z in
+      (rw (f, e) refl, rw f refl)
+
+  -- to one of 7 to 10
+  pub to-ten : {r : ℕ} → 1 ≤ R → FirstNo o (q9b mask) mask r → r ≢ 0 → Untried r
+  to-ten Rpos f n = outline-no (sym (f .every R Rpos)) n
+
+  module _ {way : Way} {s : Tried} (Rpos : 1 ≤ R) (y : Ordered o (q9b mask) mask) (tried : TurnsTo W R N g held o mask 4 words way s) where
     -- question 11 is answered by the runs with the gap: there is one exactly when there is one without
     runs-same : (0 < mostRuns o mask R g 4) ↔ (q11b o mask R ≡ true)
     runs-same = most-same o mask R (question-10 o mask .0 (y .ten)) (has-side o (question-7 o .0 (y .seven))) Rpos g
 
-    pub eleven : s .most ≡ 0 → Refused (refusal 11 1) ≡ placeOn W R N g Q held o mask words
-    unfolding placeOn outlineNo
+    pub eleven : s .most ≡ 0 → Untried 11
+    unfolding outlineNo
     eleven z =
         let e : q11b o mask R ≡ false = not-true _ (not-decides (Iff·symm runs-same) .1 (λ l. omega (arith, tried .most))) in
-        rw (y .seven, y .eight, y .nine, y .ten, e) refl
+        let first : outlineNo o (q9b mask) mask R ≡ 11 = rw (y .seven, y .eight, y .nine, y .ten, e) refl in
+        outline-no first (λ bad. omega arith)
 
     module _ (some-runs : s .most ≢ 0) where
       cell : q11b o mask R ≡ true
@@ -61,11 +73,11 @@ module _ (W R N g Q : ℕ) (held : List (List Rows)) (o : List ℕ) (mask words 
       none-no : outlineNo o (q9b mask) mask R ≡ 0
       none-no = none-no-is o (q9b mask) mask R .1 (y .seven, y .eight, y .nine, y .ten, cell)
 
-      pub twelve : words / 3 < s .most → Refused (refusal 12 1) ≡ placeOn W R N g Q held o mask words
-      unfolding placeOn q12b
+      pub twelve : words / 3 < s .most → Untried 12
+      unfolding placeOn triesOn q12b
       twelve l =
           let e = lt-leb (3 * mostRuns o mask R g 4) words (omega (arith, tried .most)) in
-          rw (none-no, e) refl
+          (rw (none-no, e) refl, rw (none-no, e) refl)
 
       module _ (fits : s .most ≤ words / 3) where
         room : q12b o mask R g words ≡ true
@@ -75,6 +87,14 @@ module _ (W R N g Q : ℕ) (held : List (List Rows)) (o : List ℕ) (mask words 
         chosen : placeOn W R N g Q held o mask words ≡ choose W R g Q held o (bestBelow W R N g held o mask 4)
         unfolding placeOn
         chosen = rw (none-no, room) refl
+
+        -- the tries are those of the allowed turns
+        all-tries : triesOn W R N g held o mask words ≡ triesBelow W R N g held o mask 4
+        unfolding triesOn
+        all-tries = rw (none-no, room) refl
+
+        pub tries-on : TriesAre way (s .tries) (triesOn W R N g held o mask words)
+        tries-on = tries-same way _ _ _ (sym all-tries) (tried .tries (omega arith))
 
         -- the definition's best position is that of the choice
         best-is : (c : Choice) → s .best ≡ c → bestBelow W R N g held o mask 4 ≡ placeOf c
@@ -131,6 +151,16 @@ pub placed-on : {f l h f' l' h' o : List ℕ} {W R N g Q mask words : ℕ} {a : 
     (ask (q14b W R g Q (tableOf f l h N) o p) (Refused (refusal 14 1)) λ _. Placed p) ≡ placeOn W R N g Q (tableOf f l h N) o mask words →
     PlacedOn f l h f' l' h' o W R N g Q mask words a
 placed-on p e q = record { answer = e .answer ∙ q; next = e .next }
+
+-- refused before anything was tried
+no-tries : (way : Way) (n : ℕ) → n ≡ 0 → TriesAre way 0 n
+no-tries ByWalk n e = sym e
+no-tries Round n e = tt
+
+pub untried-on : {f l h f' l' h' o : List ℕ} {W R N g Q mask words number : ℕ} (way : Way) {a : PlacingTries} →
+    a ≡ record { placing = Refused (refusal number 1); tries = 0 } → Untried W R N g Q (tableOf f l h N) o mask words number →
+    CountedOn f l h f' l' h' o W R N g Q mask words way (a .placing) (a .tries)
+untried-on way e q = rw e (record { placed = refused-on refl (q .0); counted = no-tries way _ (q .1) })
 
 -- what the search among turns asks
 pub ready : {f l h f' l' h' o : List ℕ} {W R N g Q left right foot head mask : ℕ} → Tabled f l h f' l' h' W R N g Q →

@@ -13,9 +13,11 @@ use Rattle.defs.specs.Meaning.Placing.{OnStrip}
 use Rattle.defs.specs.Computing.Test.{ask}
 use Rattle.defs.specs.Computing.Cells.{pieceRuns, countRuns}
 use Rattle.defs.specs.Computing.Search.{entered}
-use Rattle.defs.specs.Computing.Calls.{refusal, q14b, placeOn}
+use Rattle.defs.specs.Computing.Calls.{refusal, q14b, placeOn, triesOn}
 use Rattle.outline.specs.Vertex.{Lent, BoundsOf}
 use Rattle.tables.specs.Flat.{Laid, tableOf}
+use Rattle.search.specs.declared.Way.{Way}
+use Rattle.best.specs.Choice.{TriesAre}
 
 -- a table of a strip with Q records, and room for the next one
 pub record Tabled (f l h f' l' h' : List ℕ) (W R N g Q : ℕ) : Type 0 where
@@ -58,3 +60,8 @@ pub record EntersAt (f l h f' l' h' o : List ℕ) (W R N g Q : ℕ) (p : Positio
 pub record PlacedOn (f l h f' l' h' o : List ℕ) (W R N g Q mask words : ℕ) (a : Placing) : Type 0 where
   pub answer : a ≡ placeOn W R N g Q (tableOf f l h N) o mask words
   pub next : NextIf f l h f' l' h' o W R N g Q a
+
+-- the same, with n tries
+pub record CountedOn (f l h f' l' h' o : List ℕ) (W R N g Q mask words : ℕ) (way : Way) (a : Placing) (n : ℕ) : Type 0 where
+  pub placed : PlacedOn f l h f' l' h' o W R N g Q mask words a
+  pub counted : TriesAre way n (triesOn W R N g (tableOf f l h N) o mask words)

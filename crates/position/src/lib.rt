@@ -14,9 +14,10 @@ ghost use Rattle.tables.specs.Piece.{Stands};
 ghost use Rattle.tables.proofs.Copies.{NoneBefore};
 ghost use Rattle.best.specs.Choice.{Kept};
 ghost use Rattle.asked.proofs.InOrder.{Ordered};
-ghost use Rattle.position.specs.Table.{Tabled, Enterable, EntersAt, PlacedOn};
+ghost use Rattle.position.specs.Table.{Tabled, Enterable, EntersAt, CountedOn};
 use defs::Figures;
 use defs::Placing;
+use defs::PlacingTries;
 use defs::Position;
 use defs::Refusal;
 use enter::Entering;
@@ -35,6 +36,19 @@ pub fn refused(number: u16, ordinal: u16) -> Placing
         number: number,
         ordinal: ordinal,
     })
+}
+
+// Refused before anything was tried.
+pub fn untried(number: u16, ordinal: u16) -> PlacingTries
+    ensures { λ a. ⌜ a ≡ record { placing = Placing.Refused (record { number = number; ordinal = ordinal }); tries = 0 } ⌝ }
+{
+    PlacingTries {
+        placing: Placing::Refused(Refusal {
+            number: number,
+            ordinal: ordinal,
+        }),
+        tries: 0,
+    }
 }
 
 // The runs of turn t stand in the work buffer, where they were put last, or are put there. Answers how many they are.
@@ -97,7 +111,7 @@ pub fn enter_at(
 }
 
 // Questions 11 to 14 of an outline that passes those before, on a table that holds the runs of a strip, where no free position ends
-// before column `lower`; where the piece is placed, the next table holds them after it.
+// before column `lower`; where the piece is placed, the next table holds them after it. The walk counts its tries, the way round none.
 pub fn place_asked(
     g: Figures,
     gap: u16,
@@ -113,40 +127,46 @@ pub fn place_asked(
     first2: &mut [u16],
     lows2: &mut [u16],
     highs2: &mut [u16],
-) -> Placing
+) -> PlacingTries
     requires { ⌜ Tabled (now first) (now lows) (now highs) (now first2) (now lows2) (now highs2) (g .width) (g .resolution) (g .columns) gap q ⌝
         ∗ ⌜ Ordered (now o) (q9b mask) mask ⌝
         ∗ ⌜ NoneBefore (g .width) (g .resolution) (g .columns) gap (tableOf (now first) (now lows) (now highs) (g .columns)) (now o) mask lower ⌝ }
-    ensures { λ a. ⌜ PlacedOn (now (first .entry)) (now (lows .entry)) (now (highs .entry)) (now (first2 .exit)) (now (lows2 .exit)) (now (highs2 .exit)) (now (o .entry)) (g .width) (g .resolution) (g .columns) gap q mask (length (now (work .entry))) a ⌝ }
+    ensures { λ a. ⌜ CountedOn (now (first .entry)) (now (lows .entry)) (now (highs .entry)) (now (first2 .exit)) (now (lows2 .exit)) (now (highs2 .exit)) (now (o .entry)) (g .width) (g .resolution) (g .columns) gap q mask (length (now (work .entry))) way (a .placing) (a .tries) ⌝ }
 {
     let room = work.len() / 3;
     let b = outline::bounds_of(o);
     let s = best::best_turn(g, gap, first, lows, highs, o, b, mask, way, lower, work);
     if s.most == 0 {
-        return refused(11, 1);
+        return untried(11, 1);
     }
     if room < s.most {
-        return refused(12, 1);
+        return untried(12, 1);
     }
     let c = s.best;
     let d = s.stands;
     match c {
-        Choice::Chosen(r) => enter_at(
-            g,
-            gap,
-            q,
-            first,
-            lows,
-            highs,
-            o,
-            b,
-            r.at,
-            d,
-            work,
-            first2,
-            lows2,
-            highs2,
-        ),
-        Choice::Nowhere => refused(13, 1),
+        Choice::Chosen(r) => PlacingTries {
+            placing: enter_at(
+                g,
+                gap,
+                q,
+                first,
+                lows,
+                highs,
+                o,
+                b,
+                r.at,
+                d,
+                work,
+                first2,
+                lows2,
+                highs2,
+            ),
+            tries: s.tries,
+        },
+        Choice::Nowhere => PlacingTries {
+            placing: refused(13, 1),
+            tries: s.tries,
+        },
     }
 }

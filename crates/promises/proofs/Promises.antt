@@ -10,6 +10,7 @@ use Rattle.claims.proofs.SheetsBack.{demand2-sheets, demand2-again}
 use Rattle.claims.proofs.Whole.{demand3-holds}
 use Rattle.claims.proofs.PlaceLists.{place-demand3-holds, places-follow}
 use Rattle.claims.proofs.AskCommit.{place-is-ask-and-commit, commit-as-asked}
+use Rattle.claims.proofs.Tries.{tries}
 use Rattle.claims.proofs.LayList.{lay-demand3}
 use Rattle.claims.proofs.Wrong.{wrong-lists}
 use Rattle.claims.proofs.Choice.{only-numbers-open}
@@ -41,6 +42,7 @@ promises =
       no-gap = no-gap-is-former;
       ask-and-commit = place-is-ask-and-commit;
       asked-commit = commit-as-asked;
+      tries = tries;
       wrong = wrong-lists;
       numbering = only-numbers-open;
       any-numbering = any-numbers;

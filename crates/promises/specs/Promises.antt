@@ -18,6 +18,7 @@ use Rattle.claims.specs.Demand2.{Demand2-cells, Demand2-sheets, Demand2-again}
 use Rattle.claims.specs.Demand3.{Demand3-holds}
 use Rattle.claims.specs.Places.{PlaceDemand3-holds, Places-follow}
 use Rattle.claims.specs.Asking.{Place-is-ask-and-commit, Commit-as-asked}
+use Rattle.claims.specs.Tries.{Tries}
 use Rattle.claims.specs.Laying.{Lay-demand3}
 use Rattle.claims.specs.Wrong.{WrongLists}
 use Rattle.claims.specs.Choice.{OnlyNumbersOpen, AnyNumbers}
@@ -56,6 +57,8 @@ pub record Promises : Type 1 where
   -- Place is ask and then commit at its answer; a commit at an ask's answer is granted, if its work buffer is no shorter.
   pub ask-and-commit : Place-is-ask-and-commit
   pub asked-commit : Commit-as-asked
+  -- S-5: the tries that place and ask report are the steps of a walk that finds each turn's least free position, and are bounded.
+  pub tries : Tries
   -- The buying office's wrong programs break demand 3; only record numbers and the order of the free chain are open.
   pub wrong : WrongLists
   pub numbering : OnlyNumbersOpen

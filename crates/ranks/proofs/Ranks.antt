@@ -2,7 +2,7 @@
 use mathlib.Core.Path.{_≡_, refl, sym, ap₂}
 use mathlib.Core.Logic.{_≢_}
 use mathlib.Core.Bool.{Bool, true, false, _||_}
-use Prim.Native.Nat.{ℕ, _≤_, _<_}
+use Prim.Native.Nat.{ℕ, _+_, _≤_, _<_}
 use native.Mathlib.Omega.{arith}
 use lib.Dec.{ltb}
 use borrow.Author.Tests.{eq-eqb, ne-eqb, le-ltb}
@@ -13,8 +13,8 @@ use Rattle.ranks.specs.declared.Choice.the-variants.{Chosen, Nowhere}
 use Rattle.ranks.specs.declared.Standing.{Standing}
 use Rattle.ranks.specs.declared.Tried.{Tried}
 
-abbrev tried : Standing → ℕ → Choice → Tried
-tried d n c = record { most = n; best = c; stands = d }
+abbrev tried : Standing → ℕ → ℕ → Choice → Tried
+tried d k n c = record { most = n; best = c; tries = k; stands = d }
 
 pub equal-end : (q p : Ranked) → q .end ≡ p .end → ltb (q .top) (p .top) ≡ beatsBy q p
 equal-end q p e = rw (le-ltb (q .end) (p .end) (omega arith), eq-eqb (q .end) (p .end) e) refl
@@ -28,12 +28,12 @@ other-end q p n = rw (ne-eqb (q .end) (p .end) n) (or-false (ltb (q .end) (p .en
 
 -- the greater of two numbers of runs
 pub second-most : (s x : Tried) (c : Choice) → c ≡ betterBy (s .best) (x .best) → s .most < x .most →
-    _≡_ {A = Tried} (record { most = x .most; best = c; stands = x .stands }) (merged s x)
-second-most s x c e l = ap₂ (tried (x .stands)) (omega arith) e
+    _≡_ {A = Tried} (record { most = x .most; best = c; tries = s .tries + x .tries; stands = x .stands }) (merged s x)
+second-most s x c e l = ap₂ (tried (x .stands) (s .tries + x .tries)) (omega arith) e
 
 pub first-most : (s x : Tried) (c : Choice) → c ≡ betterBy (s .best) (x .best) → x .most ≤ s .most →
-    _≡_ {A = Tried} (record { most = s .most; best = c; stands = x .stands }) (merged s x)
-first-most s x c e l = ap₂ (tried (x .stands)) (omega arith) e
+    _≡_ {A = Tried} (record { most = s .most; best = c; tries = s .tries + x .tries; stands = x .stands }) (merged s x)
+first-most s x c e l = ap₂ (tried (x .stands) (s .tries + x .tries)) (omega arith) e
 
 -- a better choice, by the tests that were made
 pub better-second : {a b : Choice} {p q : Ranked} {r : Bool} → a ≡ Chosen p → b ≡ Chosen q → r ≡ beatsBy q p → r ≡ true →

@@ -1,6 +1,6 @@
 -- The better of two positions, by rank. Assumes nothing.
 use mathlib.Core.Bool.{Bool, cond, _&&_, _||_}
-use Prim.Native.Nat.{ℕ, max, min}
+use Prim.Native.Nat.{ℕ, _+_, max, min}
 use lib.Dec.{ltb, eqb}
 use Rattle.ranks.specs.declared.Ranked.{Ranked}
 use Rattle.ranks.specs.declared.Choice.{Choice}
@@ -17,7 +17,13 @@ betterBy Nowhere (Chosen q) = Chosen q
 betterBy (Chosen p) (Chosen q) = cond (beatsBy q p) (Chosen q) (Chosen p)
 
 abbrev pub merged : Tried → Tried → Tried
-merged s x = record { most = max (s .most) (x .most); best = betterBy (s .best) (x .best); stands = x .stands }
+merged s x =
+    record {
+      most = max (s .most) (x .most);
+      best = betterBy (s .best) (x .best);
+      tries = s .tries + x .tries;
+      stands = x .stands;
+    }
 
 -- a position that ends after this column, of n, does not win against the choice
 abbrev pub limitOf : Choice → ℕ → ℕ

@@ -1,7 +1,7 @@
 // Positions in turns, and which of two is better.
 
 ghost use mathlib.Core.Path.{_≡_};
-ghost use Prim.Native.Nat.{_≤_};
+ghost use Prim.Native.Nat.{_+_, _≤_};
 ghost use Rattle.defs.specs.Meaning.Placing.{columnsFor};
 ghost use Rattle.ranks.specs.Ranks.{beatsBy, betterBy, merged, limitOf};
 use defs::Position;
@@ -24,10 +24,11 @@ pub struct Standing {
     pub runs: usize,
 }
 
-// The most runs of the turns tried, the best position in them, and what stands in the work buffer.
+// The most runs of the turns tried, the best position in them, the tries made, and what stands in the work buffer.
 pub struct Tried {
     pub most: usize,
     pub best: Choice,
+    pub tries: u32,
     pub stands: Standing,
 }
 
@@ -61,22 +62,26 @@ fn better(a: Choice, b: Choice) -> Choice
 }
 
 pub fn merge(s: Tried, x: Tried) -> Tried
+    requires { ⌜ s .tries + x .tries ≤ 4294967295 ⌝ }
     ensures { λ m. ⌜ m ≡ merged s x ⌝ }
 {
     let a = s.best;
     let b = x.best;
     let c = better(a, b);
     let d = x.stands;
+    let tries = s.tries + x.tries;
     if s.most < x.most {
         return Tried {
             most: x.most,
             best: c,
+            tries,
             stands: d,
         };
     }
     Tried {
         most: s.most,
         best: c,
+        tries,
         stands: d,
     }
 }

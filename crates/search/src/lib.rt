@@ -3,9 +3,9 @@
 ghost use mathlib.Core.Path.{_≡_};
 ghost use Prim.Native.Nat.{_+_, _-_, _≤_, _<_};
 ghost use Rattle.walk.specs.Free.{Frame};
-ghost use Rattle.search.specs.Searched.{FullBefore, SearchedTo};
+ghost use Rattle.search.specs.Searched.{FullBefore, Looks};
 use walk::Search;
-use walk::Spot;
+use walk::TurnWalk;
 
 // How a turn is searched: by the walk, or going round the piece's runs.
 pub enum Way {
@@ -29,7 +29,7 @@ fn start_at(lower: usize, w: usize) -> usize
 }
 
 // The least free position of a piece, where none ends before column `lower`. Going round, only positions from there on and up to the
-// last column `limit` are tried.
+// last column `limit` are tried, and no tries are counted: they are not those of the walk.
 pub fn search(
     first: &[u16],
     lows: &[u16],
@@ -39,18 +39,21 @@ pub fn search(
     way: Way,
     lower: usize,
     limit: usize,
-) -> Spot
+) -> TurnWalk
     requires { ⌜ Frame (now first) (now lows) (now highs) (now runs) (s .columns) (s .width) (s .runs) (s .wide) (s .tall) ⌝
         ∗ ⌜ (s .width ≤ 16000) × (s .columns ≤ 4096) × (limit ≤ s .columns)
         × FullBefore (now first) (now lows) (now highs) (now runs) (s .columns) (s .width) (s .runs) (s .wide) (s .tall) lower ⌝ }
-    ensures { λ a. ⌜ SearchedTo (now (first .entry)) (now (lows .entry)) (now (highs .entry)) (now (runs .entry)) (s .columns) (s .width) (s .runs) (s .wide) (s .tall) limit a ⌝ }
+    ensures { λ a. ⌜ Looks (now (first .entry)) (now (lows .entry)) (now (highs .entry)) (now (runs .entry)) (s .columns) (s .width) (s .runs) (s .wide) (s .tall) limit way a ⌝ }
 {
     match way {
         Way::Walk => walk::walk_turn(first, lows, highs, runs, s),
         Way::Round => {
             let from = start_at(lower, s.wide);
             let end = stop_at(limit, s.wide);
-            round::round_range(first, lows, highs, runs, s, from, end)
+            TurnWalk {
+                spot: round::round_range(first, lows, highs, runs, s, from, end),
+                tries: 0,
+            }
         }
     }
 }

@@ -1,8 +1,16 @@
-// The calls as C functions: an answer of several numbers in one of 64 bits. A call whose arguments have changed has the number of the
-// header's edition in its name, so that a program compiled against an older header does not link.
+// The calls as C functions: an answer of several numbers in one of 64 bits; place and ask have their tries beside it. A call whose
+// arguments or answer have changed has the number of the header's edition in its name, so that a program compiled against an older header
+// does not link.
 
 ghost use Rattle.packing.specs.Steps.{OpenPacked, CoverPacked, PlacePacked, AskPacked, CommitPacked, ReadPacked, WritePacked, LayPacked, RetracePacked, PathReadPacked, PathWritePacked, OpenBytesPacked, PlaceBytesPacked, AskBytesPacked, CommitBytesPacked, LayBytesPacked};
 use defs::Position;
+
+// What a call answers whose tries are told with every answer.
+#[repr(C)]
+pub struct Tried {
+    pub answer: u64,
+    pub tries: u32,
+}
 
 // The open call.
 #[no_mangle]
@@ -19,27 +27,40 @@ pub extern "C" fn vikelodu_open_4(
     packing::pack_opening(a)
 }
 
-// The place call: turn, column and height after the number 0.
+// The place call: turn, column and height after the number 0; and the tries.
 #[no_mangle]
-pub extern "C" fn vikelodu_place(
+pub extern "C" fn vikelodu_place_5(
     strip: &mut [u16],
     outline: &[u16],
     mask: u16,
     work: &mut [u16],
-) -> u64
-    ensures { λ r. ⌜ PlacePacked (now (strip .entry)) (now (outline .entry)) mask (now (work .entry)) r (now (strip .exit)) (now (work .exit)) ⌝ }
+) -> Tried
+    ensures { λ r. ⌜ PlacePacked (now (strip .entry)) (now (outline .entry)) mask (now (work .entry)) (r .answer) (r .tries) (now (strip .exit)) (now (work .exit)) ⌝ }
 {
     let a = place::place(strip, outline, mask, work);
-    packing::pack_placing(a)
+    let p = a.placing;
+    Tried {
+        answer: packing::pack_placing(p),
+        tries: a.tries,
+    }
 }
 
-// The ask call: turn, column and height after the number 0. The strip is only read.
+// The ask call: turn, column and height after the number 0; and the tries. The strip is only read.
 #[no_mangle]
-pub extern "C" fn vikelodu_ask(strip: &[u16], outline: &[u16], mask: u16, work: &mut [u16]) -> u64
-    ensures { λ r. ⌜ AskPacked (now (strip .entry)) (now (outline .entry)) mask (now (work .entry)) r (now (strip .exit)) (now (work .exit)) ⌝ }
+pub extern "C" fn vikelodu_ask_5(
+    strip: &[u16],
+    outline: &[u16],
+    mask: u16,
+    work: &mut [u16],
+) -> Tried
+    ensures { λ r. ⌜ AskPacked (now (strip .entry)) (now (outline .entry)) mask (now (work .entry)) (r .answer) (r .tries) (now (strip .exit)) (now (work .exit)) ⌝ }
 {
     let a = ask::ask(strip, outline, mask, work);
-    packing::pack_asking(a)
+    let p = a.asking;
+    Tried {
+        answer: packing::pack_asking(p),
+        tries: a.tries,
+    }
 }
 
 // The commit call.
@@ -161,30 +182,38 @@ pub extern "C" fn vikelodu_open_bytes_4(
 
 // The place call on buffers passed as bytes.
 #[no_mangle]
-pub extern "C" fn vikelodu_place_bytes(
+pub extern "C" fn vikelodu_place_bytes_5(
     strip: &mut [u8],
     outline: &[u8],
     mask: u16,
     work: &mut [u8],
-) -> u64
-    ensures { λ r. ⌜ PlaceBytesPacked (now (strip .entry)) (now (outline .entry)) mask (now (work .entry)) r (now (strip .exit)) (now (work .exit)) ⌝ }
+) -> Tried
+    ensures { λ r. ⌜ PlaceBytesPacked (now (strip .entry)) (now (outline .entry)) mask (now (work .entry)) (r .answer) (r .tries) (now (strip .exit)) (now (work .exit)) ⌝ }
 {
     let a = byteput::place_bytes(strip, outline, mask, work);
-    packing::pack_placing(a)
+    let p = a.placing;
+    Tried {
+        answer: packing::pack_placing(p),
+        tries: a.tries,
+    }
 }
 
 // The ask call on buffers passed as bytes.
 #[no_mangle]
-pub extern "C" fn vikelodu_ask_bytes(
+pub extern "C" fn vikelodu_ask_bytes_5(
     strip: &[u8],
     outline: &[u8],
     mask: u16,
     work: &mut [u8],
-) -> u64
-    ensures { λ r. ⌜ AskBytesPacked (now (strip .entry)) (now (outline .entry)) mask (now (work .entry)) r (now (strip .exit)) (now (work .exit)) ⌝ }
+) -> Tried
+    ensures { λ r. ⌜ AskBytesPacked (now (strip .entry)) (now (outline .entry)) mask (now (work .entry)) (r .answer) (r .tries) (now (strip .exit)) (now (work .exit)) ⌝ }
 {
     let a = byteput::ask_bytes(strip, outline, mask, work);
-    packing::pack_asking(a)
+    let p = a.asking;
+    Tried {
+        answer: packing::pack_asking(p),
+        tries: a.tries,
+    }
 }
 
 // The commit call on buffers passed as bytes.

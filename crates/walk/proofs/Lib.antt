@@ -1,2 +1,4 @@
 pub mod Jumps
 pub mod Searches
+pub mod Counts
+pub mod Walks

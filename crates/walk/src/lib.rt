@@ -1,7 +1,10 @@
-// The search for a piece's least free position in one turn: column by column, and in a column from height 0 on by jumps.
+// The search for a piece's least free position in one turn: column by column, and in a column from height 0 on by jumps. The heights
+// tried are counted.
 
+ghost use mathlib.Core.Path.{_≡_};
 ghost use Prim.Native.Nat.{_+_, _-_, _≤_, _<_};
-ghost use Rattle.walk.specs.Free.{Frame, InColumns, Before, GoesOn, Walked, Searched};
+ghost use Rattle.walk.specs.Free.{Frame, InColumns, Before, GoesOn};
+ghost use Rattle.walk.specs.Steps.{WalkedColumn, WalkedTurn};
 use tries::Tried;
 
 pub enum Height {
@@ -12,6 +15,18 @@ pub enum Height {
 pub enum Spot {
     Found(usize, u16),
     None,
+}
+
+// What the walk of a column answers: its least free height, and the tries.
+pub struct ColumnWalk {
+    pub height: Height,
+    pub tries: u32,
+}
+
+// What the walk of a turn answers: its least free position, and the tries.
+pub struct TurnWalk {
+    pub spot: Spot,
+    pub tries: u32,
 }
 
 // The figures of a search: columns and width of the table, and the piece's runs, columns and height.
@@ -72,7 +87,7 @@ pub fn runs_before(runs: &[u16], p: usize, w: usize) -> usize
     count_before(runs, p, w)
 }
 
-// The least free height in column c; what goes past the last column or the top does not count. Runs that stay free up to a height are not
+// The least free height in column c, and the tries; what goes past the last column or the top does not count. Runs that stay free up to a height are not
 // tried again until a jump goes above it.
 pub fn walk_column(
     first: &[u16],
@@ -81,10 +96,10 @@ pub fn walk_column(
     runs: &[u16],
     s: Search,
     c: usize,
-) -> Height
+) -> ColumnWalk
     requires { ⌜ Frame (now first) (now lows) (now highs) (now runs) (s .columns) (s .width) (s .runs) (s .wide) (s .tall) ⌝
         ∗ ⌜ (c + s .wide ≤ s .columns) × (s .tall ≤ s .width) × (s .width ≤ 16000) ⌝ }
-    ensures { λ a. ⌜ Walked (now (first .entry)) (now (lows .entry)) (now (highs .entry)) (now (runs .entry)) (s .columns) (s .width) (s .runs) (s .tall) c a ⌝ }
+    ensures { λ a. ⌜ WalkedColumn (now (first .entry)) (now (lows .entry)) (now (highs .entry)) (now (runs .entry)) (s .columns) (s .width) (s .runs) (s .tall) c a ⌝ }
 {
     let top = s.width - s.tall;
     let n = s.columns;
@@ -92,6 +107,7 @@ pub fn walk_column(
     let mut y: u16 = 0;
     let mut k = 0;
     let mut stay = top;
+    let mut tries: u32 = 1;
     while k < p {
         let col = c + runs[3 * k] as usize;
         let lo = runs[3 * k + 1];
@@ -103,42 +119,69 @@ pub fn walk_column(
             }
             Tried::Jump(z) => {
                 if top < z {
-                    return Height::Full;
+                    return ColumnWalk {
+                        height: Height::Full,
+                        tries,
+                    };
                 }
                 let n = go_on(k, z, stay, top);
                 y = z;
                 k = n.run;
                 stay = n.stay;
+                tries += 1;
             }
         }
     }
-    Height::Up(y)
+    ColumnWalk {
+        height: Height::Up(y),
+        tries,
+    }
 }
 
-// The least free column, and the least free height in it.
-pub fn walk_turn(first: &[u16], lows: &[u16], highs: &[u16], runs: &[u16], s: Search) -> Spot
+// The walk of a turn in which no column has room.
+fn untried() -> TurnWalk
+    ensures { λ a. ⌜ a ≡ record { spot = Spot.None; tries = 0 } ⌝ }
+{
+    TurnWalk {
+        spot: Spot::None,
+        tries: 0,
+    }
+}
+
+// The least free column, the least free height in it, and the tries.
+pub fn walk_turn(first: &[u16], lows: &[u16], highs: &[u16], runs: &[u16], s: Search) -> TurnWalk
     requires { ⌜ Frame (now first) (now lows) (now highs) (now runs) (s .columns) (s .width) (s .runs) (s .wide) (s .tall) ⌝
-        ∗ ⌜ s .width ≤ 16000 ⌝ }
-    ensures { λ a. ⌜ Searched (now (first .entry)) (now (lows .entry)) (now (highs .entry)) (now (runs .entry)) (s .columns) (s .width) (s .runs) (s .wide) (s .tall) a ⌝ }
+        ∗ ⌜ (s .width ≤ 16000) × (s .columns ≤ 4096) ⌝ }
+    ensures { λ a. ⌜ WalkedTurn (now (first .entry)) (now (lows .entry)) (now (highs .entry)) (now (runs .entry)) (s .columns) (s .width) (s .runs) (s .wide) (s .tall) a ⌝ }
 {
     if s.width < s.tall {
-        return Spot::None;
+        return untried();
     }
     let n = s.columns;
     let w = s.wide;
     if n < w {
-        return Spot::None;
+        return untried();
     }
     let mut c = 0;
+    let mut tries: u32 = 0;
     while c <= n - w {
-        match walk_column(first, lows, highs, runs, s, c) {
+        let x = walk_column(first, lows, highs, runs, s, c);
+        tries += x.tries;
+        let at = x.height;
+        match at {
             Height::Up(y) => {
-                return Spot::Found(c, y);
+                return TurnWalk {
+                    spot: Spot::Found(c, y),
+                    tries,
+                };
             }
             Height::Full => {
                 c += 1;
             }
         }
     }
-    Spot::None
+    TurnWalk {
+        spot: Spot::None,
+        tries,
+    }
 }

@@ -1,6 +1,6 @@
 -- From a strip's words to the table of its runs, and to the strip that is written from the next table.
 -- Assumes nothing.
-use mathlib.Core.Path.{_≡_, sym, ap, subst, _∙_}
+use mathlib.Core.Path.{_≡_, refl, sym, ap, subst, _∙_}
 use mathlib.Core.List.{List, []}
 use Prim.Native.Nat.{ℕ, _≤_}
 use native.Mathlib.Omega.{arith}
@@ -12,7 +12,7 @@ use Rattle.defs.specs.Meaning.Strip.{widthOf, resolutionOf, columnsOf, gapOf}
 use Rattle.defs.specs.Computing.Cells.{Rows}
 use Rattle.defs.specs.Computing.Words.{recordsOf, columnsRuns, written}
 use Rattle.defs.specs.Computing.Search.{entered}
-use Rattle.defs.specs.Computing.Calls.{Left, placeOn, placeAnswer, commitOn, commitAnswer}
+use Rattle.defs.specs.Computing.Calls.{Left, placeOn, placeAnswer, triesOn, placeTries, commitOn, commitAnswer}
 use Rattle.laws.proofs.Questions.{length-decides}
 use Rattle.laws.proofs.Formed.{formed}
 use Rattle.tables.specs.Flat.{Flat, Laid, tableOf}
@@ -27,7 +27,7 @@ use Rattle.position.specs.Table.{Tabled, Next, NextIf}
 use Rattle.commiton.specs.Commits.{placedAt}
 use Rattle.wanted.specs.declared.Wanted.{Wanted}
 use Rattle.wanted.specs.declared.Wanted.the-variants.{Best, At}
-use Rattle.wanted.specs.Answers.{answerOn, answerTo, OnTable, Entered, Looked}
+use Rattle.wanted.specs.Answers.{answerOn, answerTo, countOn, countTo, OnTable, Entered, Looked}
 
 module _ {s f l h : List ℕ} {t : ℕ} (held : Holds-runs s f l h t) where
   abbrev W : ℕ
@@ -80,6 +80,12 @@ module _ {s f l h : List ℕ} {t : ℕ} (held : Holds-runs s f l h t) where
   table-is (At p) o words =
       rw (held .well-formed) (ap (λ (c : List (List Rows)). placedAt p (commitOn W R N g Q c o p words)) (held .table))
 
+  count-is-to : (w : Wanted) (o : List ℕ) (words : ℕ) → countOn w W R N g (tableOf f l h N) o words ≡ countTo w s o words
+  unfolding countOn countTo placeTries
+  count-is-to (Best mask) o words =
+      rw (held .well-formed) (ap (λ (c : List (List Rows)). triesOn W R N g c o mask words) (held .table))
+  count-is-to (At p) o words = refl
+
   module _ {f' l' h' o : List ℕ} (p : Position) (next : Next f l h f' l' h' o W R N g Q p) where
     n-is : getD f' N 0 ≡ next .count
     n-is = next .laid .flat .last
@@ -120,10 +126,11 @@ module _ {s f l h : List ℕ} {t : ℕ} (held : Holds-runs s f l h t) where
     entered-of : Entered s o p f' l' h'
     entered-of = record { leading = leading; flat = next-flat; few = next-few; room = room; left = left }
 
-  pub looked : {f' l' h' o : List ℕ} {w : Wanted} {words q : ℕ} {a : Placing} → q ≡ Q → OnTable f l h f' l' h' o W R N g q w words a →
-      Looked s o w words a f' l' h'
+  pub looked : {f' l' h' o : List ℕ} {w : Wanted} {words q : ℕ} {a : Placing} {n : ℕ} → q ≡ Q →
+      OnTable f l h f' l' h' o W R N g q w words a n → Looked s o w words a n f' l' h'
   looked {f'} {l'} {h'} {o} {w} {words} e on =
       record {
         answer = on .answer ∙ ap (λ (n : ℕ). answerOn w W R N g n (tableOf f l h N) o words) e ∙ table-is w o words;
+        counted = on .counted ∙ count-is-to w o words;
         next = λ p t. entered-of p (rw e at (subst (NextIf f l h f' l' h' o W R N g _) t (on .next)));
       }

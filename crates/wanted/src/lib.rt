@@ -9,6 +9,7 @@ ghost use Rattle.wanted.specs.Answers.{OnTable, Looked, Put};
 use decode::Decoded;
 use defs::Figures;
 use defs::Placing;
+use defs::PlacingTries;
 use defs::Position;
 use search::Way;
 
@@ -17,7 +18,7 @@ pub enum Wanted {
     At(Position),
 }
 
-// Questions 7 to 14, or 7 to 12, 18 and 14, on a table that holds the runs of a strip; where there is a position, the next table holds them
+// Questions 7 to 14, with the tries, or 7 to 12, 18 and 14, on a table that holds the runs of a strip; where there is a position, the next table holds them
 // with the piece there.
 fn on_table(
     g: Figures,
@@ -32,9 +33,9 @@ fn on_table(
     first2: &mut [u16],
     lows2: &mut [u16],
     highs2: &mut [u16],
-) -> Placing
+) -> PlacingTries
     requires { ⌜ Tabled (now first) (now lows) (now highs) (now first2) (now lows2) (now highs2) (g .width) (g .resolution) (g .columns) gap q ⌝ }
-    ensures { λ a. ⌜ OnTable (now (first .entry)) (now (lows .entry)) (now (highs .entry)) (now (first2 .exit)) (now (lows2 .exit)) (now (highs2 .exit)) (now (o .entry)) (g .width) (g .resolution) (g .columns) gap q wanted (length (now (work .entry))) a ⌝ }
+    ensures { λ a. ⌜ OnTable (now (first .entry)) (now (lows .entry)) (now (highs .entry)) (now (first2 .exit)) (now (lows2 .exit)) (now (highs2 .exit)) (now (o .entry)) (g .width) (g .resolution) (g .columns) gap q wanted (length (now (work .entry))) (a .placing) (a .tries) ⌝ }
 {
     match wanted {
         Wanted::Best(mask) => placeon::place_on(
@@ -52,20 +53,23 @@ fn on_table(
             lows2,
             highs2,
         ),
-        Wanted::At(p) => commiton::commit_on(
-            g,
-            gap,
-            q,
-            first,
-            lows,
-            highs,
-            o,
-            p,
-            work,
-            first2,
-            lows2,
-            highs2,
-        ),
+        Wanted::At(p) => PlacingTries {
+            placing: commiton::commit_on(
+                g,
+                gap,
+                q,
+                first,
+                lows,
+                highs,
+                o,
+                p,
+                work,
+                first2,
+                lows2,
+                highs2,
+            ),
+            tries: 0,
+        },
     }
 }
 
@@ -82,10 +86,10 @@ fn look_decoded(
     first2: &mut [u16],
     lows2: &mut [u16],
     highs2: &mut [u16],
-) -> Placing
+) -> PlacingTries
     requires { ⌜ Holds-runs (now strip) (now first) (now lows) (now highs) t ⌝
         ∗ ⌜ (4097 ≤ length (now first2)) × (24001 ≤ length (now lows2)) × (24001 ≤ length (now highs2)) ⌝ }
-    ensures { λ a. ⌜ Looked (now (strip .entry)) (now (o .entry)) wanted (length (now (work .entry))) a (now (first2 .exit)) (now (lows2 .exit)) (now (highs2 .exit)) ⌝ }
+    ensures { λ a. ⌜ Looked (now (strip .entry)) (now (o .entry)) wanted (length (now (work .entry))) (a .placing) (a .tries) (now (first2 .exit)) (now (lows2 .exit)) (now (highs2 .exit)) ⌝ }
 {
     let g = Figures {
         width: strip[limits::WIDTH],
@@ -118,9 +122,9 @@ pub fn look(
     first2: &mut [u16],
     lows2: &mut [u16],
     highs2: &mut [u16],
-) -> Placing
+) -> PlacingTries
     requires { ⌜ (4097 ≤ length (now first2)) × (24001 ≤ length (now lows2)) × (24001 ≤ length (now highs2)) ⌝ }
-    ensures { λ a. ⌜ Looked (now (strip .entry)) (now (o .entry)) wanted (length (now (work .entry))) a (now (first2 .exit)) (now (lows2 .exit)) (now (highs2 .exit)) ⌝ }
+    ensures { λ a. ⌜ Looked (now (strip .entry)) (now (o .entry)) wanted (length (now (work .entry))) (a .placing) (a .tries) (now (first2 .exit)) (now (lows2 .exit)) (now (highs2 .exit)) ⌝ }
 {
     let mut first = [0u16; limits::FIRSTS];
     let mut lows = [0u16; limits::MOST_RECORDS];
@@ -139,7 +143,7 @@ pub fn look(
             lows2,
             highs2,
         ),
-        Decoded::Ill => position::refused(5, 0),
+        Decoded::Ill => position::untried(5, 0),
     }
 }
 
@@ -152,11 +156,13 @@ fn put_with(
     first2: &mut [u16],
     lows2: &mut [u16],
     highs2: &mut [u16],
-) -> Placing
+) -> PlacingTries
     requires { ⌜ (4097 ≤ length (now first2)) × (24001 ≤ length (now lows2)) × (24001 ≤ length (now highs2)) ⌝ }
-    ensures { λ a. ⌜ Put (now (strip .entry)) (now (o .entry)) wanted (length (now (work .entry))) a (now (strip .exit)) ⌝ }
+    ensures { λ a. ⌜ Put (now (strip .entry)) (now (o .entry)) wanted (length (now (work .entry))) (a .placing) (a .tries) (now (strip .exit)) ⌝ }
 {
-    match look(strip, o, wanted, work, first2, lows2, highs2) {
+    let x = look(strip, o, wanted, work, first2, lows2, highs2);
+    let a = x.placing;
+    match a {
         Placing::Placed(p) => {
             let g = Figures {
                 width: strip[limits::WIDTH],
@@ -166,15 +172,15 @@ fn put_with(
             let gap = strip[limits::GAP];
             let n = first2[g.columns as usize] as usize;
             encode::encode(strip, g, gap, first2, lows2, highs2, n);
-            Placing::Placed(p)
+            x
         }
-        Placing::Refused(r) => Placing::Refused(r),
+        Placing::Refused(r) => x,
     }
 }
 
 // Lends the next table.
-pub fn put(strip: &mut [u16], o: &[u16], wanted: Wanted, work: &mut [u16]) -> Placing
-    ensures { λ a. ⌜ Put (now (strip .entry)) (now (o .entry)) wanted (length (now (work .entry))) a (now (strip .exit)) ⌝ }
+pub fn put(strip: &mut [u16], o: &[u16], wanted: Wanted, work: &mut [u16]) -> PlacingTries
+    ensures { λ a. ⌜ Put (now (strip .entry)) (now (o .entry)) wanted (length (now (work .entry))) (a .placing) (a .tries) (now (strip .exit)) ⌝ }
 {
     let mut first2 = [0u16; limits::FIRSTS];
     let mut lows2 = [0u16; position::NEXT_RUNS];

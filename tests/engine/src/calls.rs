@@ -1,11 +1,19 @@
 //! The public calls, as include/vikelodu.h declares them. Nothing checks these
 //! declarations against the engine, so they are few and plain. Names that end in _4
-//! are of the calls that request S-4 gave a gap.
+//! are of the calls that request S-4 gave a gap, those in _5 of the calls whose answer
+//! has had tries beside it since S-5.
 
 use reference::retrace::EdgePair;
-use reference::{Figures, Position, Refusal, Totals};
+use reference::{Figures, Position, Refusal, Totals, Tried};
 
 mod exported {
+    /// `vikelodu_tried`, returned by value.
+    #[repr(C)]
+    pub struct Tried {
+        pub answer: u64,
+        pub tries: u32,
+    }
+
     extern "C" {
         pub fn vikelodu_open_4(
             width: u16,
@@ -15,7 +23,7 @@ mod exported {
             strip: *mut u16,
             strip_words: usize,
         ) -> u64;
-        pub fn vikelodu_place(
+        pub fn vikelodu_place_5(
             strip: *mut u16,
             strip_words: usize,
             outline: *const u16,
@@ -23,8 +31,8 @@ mod exported {
             mask: u16,
             work: *mut u16,
             work_words: usize,
-        ) -> u64;
-        pub fn vikelodu_ask(
+        ) -> Tried;
+        pub fn vikelodu_ask_5(
             strip: *const u16,
             strip_words: usize,
             outline: *const u16,
@@ -32,7 +40,7 @@ mod exported {
             mask: u16,
             work: *mut u16,
             work_words: usize,
-        ) -> u64;
+        ) -> Tried;
         pub fn vikelodu_commit(
             strip: *mut u16,
             strip_words: usize,
@@ -100,7 +108,7 @@ mod exported {
             strip: *mut u8,
             strip_bytes: usize,
         ) -> u64;
-        pub fn vikelodu_place_bytes(
+        pub fn vikelodu_place_bytes_5(
             strip: *mut u8,
             strip_bytes: usize,
             outline: *const u8,
@@ -108,8 +116,8 @@ mod exported {
             mask: u16,
             work: *mut u8,
             work_bytes: usize,
-        ) -> u64;
-        pub fn vikelodu_ask_bytes(
+        ) -> Tried;
+        pub fn vikelodu_ask_bytes_5(
             strip: *const u8,
             strip_bytes: usize,
             outline: *const u8,
@@ -117,7 +125,7 @@ mod exported {
             mask: u16,
             work: *mut u8,
             work_bytes: usize,
-        ) -> u64;
+        ) -> Tried;
         pub fn vikelodu_commit_bytes(
             strip: *mut u8,
             strip_bytes: usize,
@@ -170,13 +178,16 @@ fn bare(answer: u64) -> Result<(), Refusal> {
 }
 
 /// Of place and ask.
-fn placed(answer: u64) -> Result<Position, Refusal> {
-    let answer = granted(answer)?;
-    Ok(Position {
+fn tried(of: exported::Tried) -> Tried {
+    let answer = granted(of.answer).map(|answer| Position {
         turn: word(answer, 16),
         column: word(answer, 32),
         height: word(answer, 48),
-    })
+    });
+    Tried {
+        answer,
+        tries: of.tries,
+    }
 }
 
 /// Of the calls with one value: cover, write, read_path and write_path.
@@ -201,15 +212,10 @@ pub fn open(w: u16, r: u16, n: u16, g: u16, strip: &mut [u16]) -> Result<(), Ref
     bare(unsafe { exported::vikelodu_open_4(w, r, n, g, strip.as_mut_ptr(), strip.len()) })
 }
 
-pub fn place(
-    strip: &mut [u16],
-    outline: &[u16],
-    mask: u16,
-    work: &mut [u16],
-) -> Result<Position, Refusal> {
+pub fn place(strip: &mut [u16], outline: &[u16], mask: u16, work: &mut [u16]) -> Tried {
     // Sound, as above. The slices share nothing: two are lent to be written, the third to be read.
-    placed(unsafe {
-        exported::vikelodu_place(
+    tried(unsafe {
+        exported::vikelodu_place_5(
             strip.as_mut_ptr(),
             strip.len(),
             outline.as_ptr(),
@@ -221,15 +227,10 @@ pub fn place(
     })
 }
 
-pub fn ask(
-    strip: &[u16],
-    outline: &[u16],
-    mask: u16,
-    work: &mut [u16],
-) -> Result<Position, Refusal> {
+pub fn ask(strip: &[u16], outline: &[u16], mask: u16, work: &mut [u16]) -> Tried {
     // Sound, as above: the strip is lent to be read.
-    placed(unsafe {
-        exported::vikelodu_ask(
+    tried(unsafe {
+        exported::vikelodu_ask_5(
             strip.as_ptr(),
             strip.len(),
             outline.as_ptr(),
@@ -379,15 +380,10 @@ pub fn open_bytes(w: u16, r: u16, n: u16, g: u16, strip: &mut [u8]) -> Result<()
     bare(unsafe { exported::vikelodu_open_bytes_4(w, r, n, g, strip.as_mut_ptr(), strip.len()) })
 }
 
-pub fn place_bytes(
-    strip: &mut [u8],
-    outline: &[u8],
-    mask: u16,
-    work: &mut [u8],
-) -> Result<Position, Refusal> {
+pub fn place_bytes(strip: &mut [u8], outline: &[u8], mask: u16, work: &mut [u8]) -> Tried {
     // Sound, as above.
-    placed(unsafe {
-        exported::vikelodu_place_bytes(
+    tried(unsafe {
+        exported::vikelodu_place_bytes_5(
             strip.as_mut_ptr(),
             strip.len(),
             outline.as_ptr(),
@@ -399,15 +395,10 @@ pub fn place_bytes(
     })
 }
 
-pub fn ask_bytes(
-    strip: &[u8],
-    outline: &[u8],
-    mask: u16,
-    work: &mut [u8],
-) -> Result<Position, Refusal> {
+pub fn ask_bytes(strip: &[u8], outline: &[u8], mask: u16, work: &mut [u8]) -> Tried {
     // Sound, as above.
-    placed(unsafe {
-        exported::vikelodu_ask_bytes(
+    tried(unsafe {
+        exported::vikelodu_ask_bytes_5(
             strip.as_ptr(),
             strip.len(),
             outline.as_ptr(),

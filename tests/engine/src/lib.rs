@@ -1,7 +1,7 @@
 //! The proved engine as a Rust program calls it, with what the tests and the
 //! benchmarks need beside it: buffers before an unreadable page, the public
-//! outlines, the proved programs as they are run, and plain programs to measure
-//! against.
+//! outlines, jobs as people write them, the proved programs as they are run, and
+//! plain programs to measure against.
 
 #![deny(unsafe_code)]
 
@@ -12,6 +12,7 @@ pub mod data;
 pub mod guard;
 #[allow(unsafe_code)]
 mod inner;
+pub mod job;
 pub mod plain;
 pub mod plain_path;
 pub mod plain_place;

@@ -3,7 +3,7 @@
 //! from call to call. It is no reference for answers.
 
 use crate::plain::{ask_7_and_8, no, Turned};
-use reference::{Position, Refusal};
+use reference::{Position, Refusal, Tried};
 
 /// A run of a column, rows low to high−1.
 type Stretch = (u16, u16);
@@ -80,9 +80,14 @@ impl Board {
     }
 
     /// Questions 7 to 14, and the piece entered.
-    pub fn place(&mut self, outline: &[u16], mask: u16, work: usize) -> Result<Position, Refusal> {
-        let pieces = self.pieces(outline, mask)?;
-        self.place_asked(&pieces, work)
+    pub fn place(&mut self, outline: &[u16], mask: u16, work: usize) -> Tried {
+        match self.pieces(outline, mask) {
+            Ok(pieces) => self.place_asked(&pieces, work),
+            Err(refusal) => Tried {
+                answer: Err(refusal),
+                tries: 0,
+            },
+        }
     }
 
     /// Questions 12 to 14 of an outline that passes those before, and the piece
@@ -96,18 +101,29 @@ impl Board {
         let pieces: Vec<Piece> = turns_of(mask)
             .map(|turn| Piece::new(&Turned::new(outline, turn), turn, self.r, self.g))
             .collect();
-        self.place_asked(&pieces, work)
+        self.place_asked(&pieces, work).answer
     }
 
     /// The piece in each allowed turn, entered in the best of them.
-    fn place_asked(&mut self, pieces: &[Piece], work: usize) -> Result<Position, Refusal> {
+    fn place_asked(&mut self, pieces: &[Piece], work: usize) -> Tried {
+        let mut tries = 0;
+        let answer = self.place_counted(pieces, work, &mut tries);
+        Tried { answer, tries }
+    }
+
+    fn place_counted(
+        &mut self,
+        pieces: &[Piece],
+        work: usize,
+        tries: &mut u32,
+    ) -> Result<Position, Refusal> {
         let most = pieces.iter().map(|piece| piece.runs.len()).max();
         if work < 3 * most.unwrap_or(0) {
             return Err(no(12, 1));
         }
         let found = pieces
             .iter()
-            .filter_map(|piece| self.least_free(piece).map(|spot| (piece, spot)));
+            .filter_map(|piece| self.least_free(piece, tries).map(|spot| (piece, spot)));
         let best = found.min_by_key(|(piece, (c, y))| (c + piece.wide, y + piece.h, piece.turn));
         let Some((piece, (c, y))) = best else {
             return Err(no(13, 1));
@@ -151,18 +167,19 @@ impl Board {
         Ok(pieces)
     }
 
-    /// The least free (c, y) of the piece.
-    fn least_free(&self, piece: &Piece) -> Option<(usize, u16)> {
+    /// The least free (c, y) of the piece; the heights tried are counted.
+    fn least_free(&self, piece: &Piece, tries: &mut u32) -> Option<(usize, u16)> {
         let last = self.n.checked_sub(piece.wide)?;
         let top = self.w.checked_sub(piece.h)?;
-        (0..=last).find_map(|c| self.least_height(piece, c, top).map(|y| (c, y)))
+        (0..=last).find_map(|c| self.least_height(piece, c, top, tries).map(|y| (c, y)))
     }
 
     /// From height 0, up by one jump after each clash: to the occupied run's high
     /// less the piece run's low. Runs that stay free up to a height are not tried
     /// again until a jump goes above it, as in the engine.
-    fn least_height(&self, piece: &Piece, c: usize, top: u16) -> Option<u16> {
+    fn least_height(&self, piece: &Piece, c: usize, top: u16, tries: &mut u32) -> Option<u16> {
         let (mut y, mut stay, mut place) = (0, top, 0);
+        *tries += 1;
         let runs = piece.runs_to(self.n - c);
         while let Some(&[column, low, high]) = runs.get(place) {
             let column = &self.columns[c + usize::from(column)];
@@ -172,6 +189,7 @@ impl Board {
                     if y > top {
                         return None;
                     }
+                    *tries += 1;
                     if stay < y {
                         (place, stay) = (0, top);
                     }

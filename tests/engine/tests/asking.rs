@@ -1,5 +1,5 @@
-//! Ask and commit, and place beside them, against the reference program: answer, every
-//! word of the strip, the work buffer and the outline. Buffers stand between two pages
+//! Ask and commit, and place beside them, against the reference program: answer, tries,
+//! every word of the strip, the work buffer and the outline. Buffers stand between two pages
 //! that cannot be read, now at the one, now at the other, and the strip of an ask
 //! cannot be written. Lists are judged on their own, too, by what their calls say.
 
@@ -14,14 +14,14 @@ use reference::generate::{
     sound_mask, sound_outline, sound_strip, strip_with, Call, CommitCall, CommitKind, Damage,
     MixedList, PlaceCall, Random, StripFigures,
 };
-use reference::{runs, strip_runs, Position, Refusal};
+use reference::{runs, strip_runs, Position, Refusal, Tried};
 use std::fmt::Debug;
 
 /// How often each number came; 0 is granted.
 type Numbers = [u32; NUMBERS];
 
 /// Place and commit: a mask or a position stands after the outline.
-type Laying<X, A> = fn(&mut [u16], &[u16], X, &mut [u16]) -> Result<A, Refusal>;
+type Laying<X, A> = fn(&mut [u16], &[u16], X, &mut [u16]) -> A;
 
 /// The engine beside the reference program, on one call after another.
 struct Both {
@@ -32,6 +32,8 @@ struct Both {
     places: Numbers,
     asks: Numbers,
     commits: Numbers,
+    /// The tries of the places and asks with each number.
+    tries: [u64; NUMBERS],
 }
 
 fn count<A>(numbers: &mut Numbers, answer: &Result<A, Refusal>) {
@@ -60,6 +62,7 @@ impl Both {
             places: [0; NUMBERS],
             asks: [0; NUMBERS],
             commits: [0; NUMBERS],
+            tries: [0; NUMBERS],
         }
     }
 
@@ -72,7 +75,7 @@ impl Both {
         outline: &[u16],
         with: X,
         work: usize,
-    ) -> Result<A, Refusal> {
+    ) -> A {
         let case = || shown(strip, outline, with, work);
         let mut after = strip.to_vec();
         let answer = theirs(&mut after, outline, with, &mut other_words(work));
@@ -107,9 +110,15 @@ impl Both {
             work,
         } = call;
         let calls = [engine::place, reference::place];
-        let answer = self.lay(calls, strip, outline, *mask, *work);
-        count(&mut self.places, &answer);
-        answer
+        let tried = self.lay(calls, strip, outline, *mask, *work);
+        count(&mut self.places, &tried.answer);
+        self.count_tries(tried)
+    }
+
+    fn count_tries(&mut self, tried: Tried) -> Result<Position, Refusal> {
+        let number = tried.answer.err().map_or(0, |refusal| refusal.number);
+        self.tries[usize::from(number)] += u64::from(tried.tries);
+        tried.answer
     }
 
     fn commit(&mut self, strip: &mut [u16], call: &CommitCall) -> Result<(), Refusal> {
@@ -132,24 +141,24 @@ impl Both {
             work,
         } = call;
         let case = || shown(strip, outline, mask, *work);
-        let answer = reference::ask(strip, outline, *mask, &mut other_words(*work));
+        let tried = reference::ask(strip, outline, *mask, &mut other_words(*work));
         let end = self.random.pick(&[End::Before, End::After]);
         let lent_outline = self.outline.lend_at(end, outline);
         let lent_work = self.work.lend_at(end, &other_words(*work));
         let ours = self.strip.lend_to_read(end, strip, |lent_strip| {
             engine::ask(lent_strip, lent_outline, *mask, lent_work)
         });
-        assert_eq!(ours, answer, "{}", case());
+        assert_eq!(ours, tried, "{}", case());
         assert!(self.strip.held_at(end, strip.len()) == strip, "{}", case());
         self.check_others(end, outline, *work, &case);
-        count(&mut self.asks, &answer);
-        answer
+        count(&mut self.asks, &tried.answer);
+        self.count_tries(tried)
     }
 
     /// Each of these numbers came at least so often: of ask, of commit.
     fn came(&self, least: u32, asks: &[usize], commits: &[usize]) {
         println!("asks {:?}, commits {:?}", self.asks, self.commits);
-        println!("places {:?}", self.places);
+        println!("places {:?}, tries {:?}", self.places, self.tries);
         for (name, all, numbers) in [("ask", self.asks, asks), ("commit", self.commits, commits)] {
             for &number in numbers {
                 let times = all[number];
@@ -341,6 +350,13 @@ fn lists(seed: u64, large: bool, gap: fn(&mut Random, u16) -> u16) {
     both.came(150, &asks, &commits);
     assert!(both.asks[0] > 20_000 && both.commits[0] > 20_000);
     assert!(at_answers[0] > 5_000 && at_answers[1] > 500);
+    // Tries come with a grant, with 13 and with 14, and with nothing else.
+    for (number, &tries) in both.tries.iter().enumerate() {
+        match number {
+            0 | 13 | 14 => assert!(tries > 1_000, "{number}: {tries}"),
+            _ => assert_eq!(tries, 0, "{number}"),
+        }
+    }
     let ill_formed = [both.places[5], both.asks[5], both.commits[5]];
     assert_eq!(ill_formed, [0; 3], "no call of a list answers 5");
 }
@@ -801,9 +817,9 @@ fn on_a_small_stack() {
             q: 4,
         });
         let (square, mut work) = ([0, 0, 4, 0, 4, 4, 0, 4], [1; 6]);
-        for position in [at(0, 0, 0), at(0, 0, 4), at(0, 2, 0)] {
-            let answer = engine::ask(&strip, &square, 1, &mut work);
-            assert_eq!(answer, Ok(position));
+        for (position, tries) in [(at(0, 0, 0), 1), (at(0, 0, 4), 2), (at(0, 2, 0), 3)] {
+            let tried = engine::ask(&strip, &square, 1, &mut work);
+            assert_eq!((tried.answer, tried.tries), (Ok(position), tries));
             let answer = engine::commit(&mut strip, &square, position, &mut work);
             assert_eq!(answer, Ok(()));
         }

@@ -1,5 +1,5 @@
 //! Open, place, ask, commit and lay on buffers of bytes against the reference program,
-//! and beside the calls on words: answer and every byte of every buffer. Buffers stand
+//! and beside the calls on words: answer, tries and every byte of every buffer. Buffers stand
 //! at a page that cannot be read or one byte from it, so at even and at odd addresses,
 //! and their lengths are even and odd.
 
@@ -13,7 +13,7 @@ use reference::generate::{
     strip_with, Call, CommitCall, Damage, Job, MixedList, PlaceCall, Random, SheetDamage,
     SheetPlan, StripFigures,
 };
-use reference::{runs, Figures, Position, Refusal, Totals};
+use reference::{runs, Figures, Position, Refusal, Totals, Tried};
 use std::fmt::Debug;
 
 /// A buffer of bytes between two pages that cannot be read.
@@ -66,7 +66,7 @@ fn came(all: &Numbers, least: u32, numbers: &[usize]) {
 
 /// Place, ask and commit on bytes or words: a mask or a position stands after the
 /// outline.
-type Laying<U, X, A> = fn(&mut [U], &[U], X, &mut [U]) -> Result<A, Refusal>;
+type Laying<U, X, A> = fn(&mut [U], &[U], X, &mut [U]) -> A;
 
 /// One of them in each program.
 struct Programs<X, A> {
@@ -88,6 +88,8 @@ struct Both {
     numbers: Numbers,
     asks: Numbers,
     commits: Numbers,
+    /// The tries of the places and asks with each number.
+    tries: [u64; NUMBERS],
 }
 
 /// The gap, and the bytes of the buffers lent to lay.
@@ -137,6 +139,7 @@ impl Both {
             numbers: [0; NUMBERS],
             asks: [0; NUMBERS],
             commits: [0; NUMBERS],
+            tries: [0; NUMBERS],
         }
     }
 
@@ -178,7 +181,7 @@ impl Both {
         outline: &[u8],
         with: X,
         work: usize,
-    ) -> Result<A, Refusal> {
+    ) -> A {
         let case = || {
             let (outline, strip) = (shown(outline), shown(strip));
             format!("{with:?} {outline:?} work {work} on {strip:?}")
@@ -218,9 +221,9 @@ impl Both {
             reference: place_bytes,
             on_words: engine::place,
         };
-        let answer = self.lay_piece(programs, strip, outline, mask, work);
-        self.count(&answer);
-        answer
+        let tried = self.lay_piece(programs, strip, outline, mask, work);
+        self.count(&tried.answer);
+        self.count_tries(tried)
     }
 
     fn ask(
@@ -236,10 +239,15 @@ impl Both {
             on_words: |strip, outline, mask, work| engine::ask(strip, outline, mask, work),
         };
         let mut after = strip.to_vec();
-        let answer = self.lay_piece(programs, &mut after, outline, mask, work);
+        let tried = self.lay_piece(programs, &mut after, outline, mask, work);
         assert!(after == strip, "an ask changes no byte of the strip");
-        self.asks[number(&answer)] += 1;
-        answer
+        self.asks[number(&tried.answer)] += 1;
+        self.count_tries(tried)
+    }
+
+    fn count_tries(&mut self, tried: Tried) -> Result<Position, Refusal> {
+        self.tries[number(&tried.answer)] += u64::from(tried.tries);
+        tried.answer
     }
 
     fn commit(
@@ -517,6 +525,13 @@ fn lists_of_calls() {
         came(&both.asks, 50, &[0, 7, 8, 9, 10, 11, 12, 13, 14]);
         came(&both.commits, 50, &[0, 7, 8, 9, 10, 11, 12, 14, 18]);
         assert_eq!((both.asks[18], both.commits[13]), (0, 0));
+        println!("tries {:?}", both.tries);
+        for (number, &tries) in both.tries.iter().enumerate() {
+            match number {
+                0 | 13 | 14 => assert!(tries > 100, "{number}: {tries}"),
+                _ => assert_eq!(tries, 0, "{number}"),
+            }
+        }
         both_ways(2_000, &[&both.strip, &both.outline, &both.work]);
     });
 }
@@ -691,6 +706,30 @@ fn pieces_with_most_runs() {
     });
 }
 
+/// A triangle of 60 columns that has no room among 16,000 runs, four in each column:
+/// more tries than 16 bits hold.
+#[test]
+fn more_tries_than_16_bits_hold() {
+    on_large_stack(|| {
+        let mut both = Both::new(534);
+        let (w, r, n, g, q) = (16_000, 100, 4_000, 3, 16_000);
+        let columns: Vec<Vec<(u16, u16)>> = (0..n)
+            .map(|column| {
+                let low = (u32::from(column) * 1_597 % 3_999) as u16;
+                let lows = [low, low + 4_000, low + 8_000, low + 12_000];
+                lows.map(|low| (low, low + 1)).to_vec()
+            })
+            .collect();
+        let figures = StripFigures { w, r, n, g, q };
+        let strip = strip_with(&mut Random::new(535), figures, &columns);
+        let triangle = bytes(&[0, 0, 6_000, 0, 6_000, 6_000]);
+        let answer = both.in_each_way(&bytes(&strip), &triangle, 0, 1_801);
+        assert_eq!(answer, Err(no(13, 1)));
+        println!("{} tries of an ask and a place", both.tries[13]);
+        assert!(both.tries[13] > 2 * 65_535);
+    });
+}
+
 /// The strip of an ask cannot be written meanwhile, at even and at odd addresses.
 #[test]
 fn an_ask_only_reads_the_strip() {
@@ -702,12 +741,12 @@ fn an_ask_only_reads_the_strip() {
         let strip = perhaps_odd(&mut random, bytes(&sound));
         let outline = bytes(&sound_outline(&mut random, 15, 4));
         let end = random.pick(&End::ALL);
-        let answer = room.lend_to_read(end, &strip, |lent| {
+        let tried = room.lend_to_read(end, &strip, |lent| {
             engine::ask_bytes(lent, &outline, 15, &mut [1; 600])
         });
         let expected = ask_bytes(&strip, &outline, 15, &mut [1; 600]);
-        assert_eq!(answer, expected);
-        granted += u32::from(answer.is_ok());
+        assert_eq!(tried, expected);
+        granted += u32::from(tried.answer.is_ok());
     }
     assert!(granted > 500, "{granted}");
 }
@@ -1020,19 +1059,23 @@ fn on_a_small_stack() {
         let mut work = vec![0; 18_001];
         assert_eq!(engine::open_bytes(10, 2, 10, 0, &mut strip), Ok(()));
         let mut committed = strip.clone();
-        for (column, height) in [(0, 0), (0, 4), (2, 0)] {
+        for (column, height, tries) in [(0, 0, 1), (0, 4, 2), (2, 0, 3)] {
             let square = bytes(&[0, 0, 4, 0, 4, 4, 0, 4]);
             let position = Position {
                 turn: 0,
                 column,
                 height,
             };
-            let answer = engine::ask_bytes(&committed, &square, 1, &mut work);
-            assert_eq!(answer, Ok(position));
+            let expected = Tried {
+                answer: Ok(position),
+                tries,
+            };
+            let asked = engine::ask_bytes(&committed, &square, 1, &mut work);
+            assert_eq!(asked, expected);
             let answer = engine::commit_bytes(&mut committed, &square, position, &mut work);
             assert_eq!(answer, Ok(()));
-            let answer = engine::place_bytes(&mut strip, &square, 1, &mut work);
-            assert_eq!(answer, Ok(position));
+            let placed = engine::place_bytes(&mut strip, &square, 1, &mut work);
+            assert_eq!(placed, expected);
             assert!(committed == strip);
         }
         let mut output = vec![0; 24];

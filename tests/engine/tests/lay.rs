@@ -197,7 +197,8 @@ fn most_runs(job: &Job, Words { g, work, .. }: Words) -> usize {
     assert_eq!(opened, Ok(()));
     let mut most = 0;
     for piece in &job.pieces {
-        if engine::place(&mut strip, &piece.outline, piece.mask, &mut work).is_ok() {
+        let tried = engine::place(&mut strip, &piece.outline, piece.mask, &mut work);
+        if tried.answer.is_ok() {
             most = most.max(strip_runs(&strip).iter().map(Vec::len).sum());
         }
     }
@@ -589,7 +590,10 @@ fn public_job(both: &mut Both, random: &mut Random, job: &mut Job, words: Words,
         let placed = job
             .pieces
             .iter()
-            .filter(|piece| plain.place(&piece.outline, piece.mask, words.work).is_ok())
+            .filter(|piece| {
+                let tried = plain.place(&piece.outline, piece.mask, words.work);
+                tried.answer.is_ok()
+            })
             .count();
         assert_eq!(usize::from(totals.placed), placed);
         assert!(both.runs_left(words) == plain.columns());

@@ -1,6 +1,6 @@
-//! Place against the reference program: answer, every word of the strip, the work
-//! buffer and the outline, with each buffer directly before a page that cannot be
-//! read. The order of the records is the engine's choice, and it is compared too:
+//! Place against the reference program: answer, tries, every word of the strip, the
+//! work buffer and the outline, with each buffer directly before a page that cannot be
+//! read. The reference program checks S-5's bound on each count of tries. The order of the records is the engine's choice, and it is compared too:
 //! 1, 2, 3 by column then low, the free ones after them, rising.
 
 use engine::data;
@@ -11,7 +11,7 @@ use reference::generate::{
     any_mask, change_words, damaged_strip, outline, random_runs, small_gap, sound_mask,
     sound_outline, sound_strip, strip_with, Damage, OutlineKind, Random, StripFigures,
 };
-use reference::{runs, strip_runs, Position, Refusal};
+use reference::{runs, strip_runs, Position, Refusal, Tried};
 
 /// The engine beside the reference program, on one call after another.
 struct Both {
@@ -20,6 +20,8 @@ struct Both {
     work: Room,
     /// How often each number came; 0 is granted.
     numbers: [u32; 16],
+    /// The tries of the calls with each number.
+    tries: [u64; 16],
     turns: [u32; 4],
 }
 
@@ -30,11 +32,11 @@ impl Both {
             outline: Room::new(300),
             work: Room::new(1_500_000),
             numbers: [0; 16],
+            tries: [0; 16],
             turns: [0; 4],
         }
     }
 
-    /// One call, with a work buffer of so many words that are not zero.
     fn place(
         &mut self,
         strip: &mut [u16],
@@ -42,15 +44,20 @@ impl Both {
         mask: u16,
         work: usize,
     ) -> Result<Position, Refusal> {
+        self.place_tries(strip, outline, mask, work).answer
+    }
+
+    /// One call, with a work buffer of so many words that are not zero.
+    fn place_tries(&mut self, strip: &mut [u16], outline: &[u16], mask: u16, work: usize) -> Tried {
         let case = || format!("{outline:?} mask {mask} work {work} on {:?}", shown(strip));
         let other_words: Vec<u16> = (0..work).map(|place| place as u16 | 1).collect();
         let mut after = strip.to_vec();
-        let answer = reference::place(&mut after, outline, mask, &mut other_words.clone());
+        let tried = reference::place(&mut after, outline, mask, &mut other_words.clone());
         let lent_strip = self.strip.lend(strip);
         let lent_outline = self.outline.lend(outline);
         let lent_work = self.work.lend(&other_words);
         let ours = engine::place(lent_strip, lent_outline, mask, lent_work);
-        assert_eq!(ours, answer, "{}", case());
+        assert_eq!(ours, tried, "{}", case());
         assert!(*lent_strip == *after, "strip: {}", case());
         assert!(lent_work.iter().all(|&word| word == 0), "work: {}", case());
         assert!(*lent_outline == *outline, "outline: {}", case());
@@ -58,28 +65,34 @@ impl Both {
             && self.outline.kept_before(outline.len())
             && self.work.kept_before(work);
         assert!(kept, "before a buffer: {}", case());
-        self.count(answer);
+        self.count(tried);
         strip.copy_from_slice(&after);
-        answer
+        tried
     }
 
-    fn count(&mut self, answer: Result<Position, Refusal>) {
-        match answer {
-            Ok(position) => {
-                self.numbers[0] += 1;
-                self.turns[usize::from(position.turn)] += 1;
-            }
-            Err(refusal) => self.numbers[usize::from(refusal.number)] += 1,
+    fn count(&mut self, tried: Tried) {
+        let number = tried.answer.err().map_or(0, |refusal| refusal.number);
+        self.numbers[usize::from(number)] += 1;
+        self.tries[usize::from(number)] += u64::from(tried.tries);
+        if let Ok(position) = tried.answer {
+            self.turns[usize::from(position.turn)] += 1;
         }
     }
 
     /// Each of these numbers came at least so often.
     fn came(&self, least: u32, numbers: &[usize]) {
         println!("numbers {:?}, turns {:?}", self.numbers, self.turns);
+        println!("tries {:?}", self.tries);
         for &number in numbers {
             let times = self.numbers[number];
             assert!(times >= least, "{number} came {times} times");
         }
+        // Tries come with a grant, with 13 and with 14; of 13 some have none.
+        for (number, &tries) in self.tries.iter().enumerate() {
+            assert!([0, 13, 14].contains(&number) || tries == 0, "{number}");
+        }
+        assert!(self.tries[0] >= u64::from(self.numbers[0]));
+        assert!(self.tries[14] >= u64::from(self.numbers[14]));
     }
 }
 
@@ -201,9 +214,9 @@ fn lay(both: &mut Both, list: &List, q: usize) -> usize {
     let mut most = 0;
     for call in &list.calls {
         let outline = &list.pieces[call.piece].outline;
-        let answer = both.place(&mut strip, outline, call.mask, call.work);
-        assert_eq!(plain.place(outline, call.mask, call.work), answer, "plain");
-        if answer.is_ok() {
+        let tried = both.place_tries(&mut strip, outline, call.mask, call.work);
+        assert_eq!(plain.place(outline, call.mask, call.work), tried, "plain");
+        if tried.answer.is_ok() {
             most = most.max(count_runs(&strip));
         }
     }
@@ -520,6 +533,33 @@ fn large_strips() {
         }
     }
     both.came(5, &[0, 13]);
+}
+
+/// A triangle of 60 columns that has no room among 16,000 runs, four in each column:
+/// more tries than 16 bits hold.
+#[test]
+fn more_tries_than_16_bits_hold() {
+    let mut both = Both::new();
+    let figures = StripFigures {
+        w: 16_000,
+        r: 100,
+        n: 4_000,
+        g: 3,
+        q: 16_000,
+    };
+    let columns: Vec<Vec<(u16, u16)>> = (0..figures.n)
+        .map(|column| {
+            let low = (u32::from(column) * 1_597 % 3_999) as u16;
+            let lows = [low, low + 4_000, low + 8_000, low + 12_000];
+            lows.map(|low| (low, low + 1)).to_vec()
+        })
+        .collect();
+    let mut strip = strip_with(&mut Random::new(53), figures, &columns);
+    let triangle = [0, 0, 6_000, 0, 6_000, 6_000];
+    let tried = both.place_tries(&mut strip, &triangle, 15, 900);
+    assert_eq!(tried.answer.map_err(|no| no.number), Err(13));
+    println!("{} tries", tried.tries);
+    assert!(tried.tries > 65_535);
 }
 
 /// Positions at the far end and at the top of the largest strip.

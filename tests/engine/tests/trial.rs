@@ -1,9 +1,9 @@
 //! The trial pieces of document 01 that open, place and cover can run, starred or
 //! not, with the numbers that the paper gives. "Q is 6 where none is given." Each is
-//! laid in two steps, too, by ask and commit.
+//! laid in two steps, too, by ask and commit. And the tries of S-5 on a few of them.
 
 use engine::{ask, commit, cover, open, place};
-use reference::{strip_runs, Position, Refusal};
+use reference::{strip_runs, Position, Refusal, Tried};
 
 /// Square S, 4 by 4.
 const S: [u16; 8] = [0, 0, 4, 0, 4, 4, 0, 4];
@@ -26,21 +26,31 @@ fn opened_with_gap(w: u16, r: u16, n: u16, g: u16, q: usize) -> Vec<u16> {
 /// Turn, column and height, or the number of the refusal. "Place stays as ask and
 /// commit together."
 fn placed(strip: &mut [u16], outline: &[u16], mask: u16) -> Result<(u16, u16, u16), u16> {
+    placed_with_tries(strip, outline, mask).0
+}
+
+/// The same, and the tries.
+fn placed_with_tries(
+    strip: &mut [u16],
+    outline: &[u16],
+    mask: u16,
+) -> (Result<(u16, u16, u16), u16>, u32) {
     let before = strip.to_vec();
     let mut work = [0xFFFF; 90];
-    let answer = place(strip, outline, mask, &mut work);
+    let tried = place(strip, outline, mask, &mut work);
     assert_eq!(work, [0; 90]);
     let mut in_two_steps = before.clone();
     work.fill(0xFFFF);
-    assert_eq!(ask(&in_two_steps, outline, mask, &mut work), answer);
+    assert_eq!(ask(&in_two_steps, outline, mask, &mut work), tried);
     assert_eq!((work, &in_two_steps), ([0; 90], &before));
+    let Tried { answer, tries } = tried;
     if let Ok(position) = answer {
         work.fill(0xFFFF);
         let committed = commit(&mut in_two_steps, outline, position, &mut work);
         assert_eq!((committed, work), (Ok(()), [0; 90]));
         assert!(in_two_steps == strip);
     }
-    match answer {
+    let answer = match answer {
         Ok(Position {
             turn,
             column,
@@ -51,7 +61,8 @@ fn placed(strip: &mut [u16], outline: &[u16], mask: u16) -> Result<(u16, u16, u1
             assert!(*strip == *before);
             Err(number)
         }
-    }
+    };
+    (answer, tries)
 }
 
 /// The runs (column, low, high) in turn 0 without a gap, or the number of the refusal.
@@ -185,13 +196,93 @@ fn positions_with_a_gap() {
         assert_eq!(placed(&mut strip, &U, 1), answer);
     }
     let mut strip = opened_with_gap(4, 2, 2, 3, 2);
-    let number = |answer: Result<Position, Refusal>| answer.map_err(|refusal| refusal.number);
+    let number = |tried: Tried| tried.answer.map_err(|refusal| refusal.number);
     assert_eq!(number(place(&mut strip, &S, 1, &mut [9; 11])), Err(12));
-    assert!(place(&mut strip, &S, 1, &mut [9; 12]).is_ok());
+    assert!(place(&mut strip, &S, 1, &mut [9; 12]).answer.is_ok());
     assert_eq!(strip_runs(&strip), [[(0, 4)], [(0, 4)]]);
     assert_eq!(strip, [4, 2, 2, 0, 3, 1, 2, 0, 0, 4, 0, 1, 0, 4, 0]);
     strip[4] = 401;
     assert_eq!(number(ask(&strip, &S, 1, &mut [9; 12])), Err(5));
+}
+
+/// The numbers (0 for granted) and tries of one call after another.
+fn tries(strip: &mut [u16], calls: &[(&[u16], u16)]) -> Vec<(u16, u32)> {
+    calls
+        .iter()
+        .map(|&(outline, mask)| {
+            let (answer, tries) = placed_with_tries(strip, outline, mask);
+            (answer.err().unwrap_or(0), tries)
+        })
+        .collect()
+}
+
+/// A square is tried where others lie and then above them: past the top is no try. The
+/// third finds no room above the first two, in two columns; so it is where 14 refuses it,
+/// and with a gap it is so in three. With 13 there are tries, before it there are none.
+#[test]
+fn tries_of_squares() {
+    let squares = [(&S[..], 1); 3];
+    for (g, q, expected) in [
+        (0, 6, [(0, 1), (0, 2), (0, 3)]),
+        (0, 3, [(0, 1), (0, 2), (14, 3)]),
+        (1, 40, [(0, 1), (0, 2), (0, 4)]),
+    ] {
+        let mut strip = opened_with_gap(10, 2, 10, g, q);
+        assert_eq!(tries(&mut strip, &squares), expected, "gap {g} Q {q}");
+    }
+    let mut strip = opened_with_gap(4, 2, 4, 3, 40);
+    assert_eq!(tries(&mut strip, &squares[..2]), [(0, 1), (13, 3)]);
+    let refused = [(&S[..], 16), (&[0, 0, 4, 0, 2, 0], 1)];
+    assert_eq!(tries(&mut strip, &refused), [(9, 0), (11, 0)]);
+    let short = place(&mut strip, &S, 1, &mut [9; 11]);
+    assert_eq!(
+        (short.answer.map_err(|no| no.number), short.tries),
+        (Err(12), 0)
+    );
+}
+
+/// All allowed turns are walked, also the one that loses; a turn that is past the top at
+/// height 0 has no try, and neither has one that is off the strip.
+#[test]
+fn tries_in_turns() {
+    let bar = &SIX_BY_TWO[..];
+    for (w, n, expected) in [
+        (6, 10, [(0, 2), (0, 4)]),
+        (4, 10, [(0, 1), (0, 2)]),
+        (1, 10, [(13, 0), (13, 0)]),
+        (10, 2, [(0, 1), (0, 2)]),
+    ] {
+        let mut strip = opened(w, 2, n, 20);
+        assert_eq!(tries(&mut strip, &[(bar, 3); 2]), expected, "W {w} N {n}");
+    }
+}
+
+/// T in turn 1 is 1–3, 0–3. Over runs of 0–2 and 1–2 its first column goes to 2 less its
+/// own low 1, and there its second goes to 2.
+#[test]
+fn tries_by_the_runs_own_low() {
+    let mut strip = opened(9, 1, 2, 6);
+    let step = [0, 0, 1, 0, 1, 1, 2, 1, 2, 2, 0, 2];
+    assert_eq!(tries(&mut strip, &[(&step, 1)]), [(0, 1)]);
+    assert_eq!(strip_runs(&strip), [[(0, 2)], [(1, 2)]]);
+    assert_eq!(placed_with_tries(&mut strip, &T, 2), (Ok((1, 0, 2)), 3));
+}
+
+/// S meets two bars, in rows 0 and 2, and goes onto the lower one before the upper one.
+#[test]
+fn tries_by_the_lowest_run() {
+    let mut strip = opened(9, 2, 2, 6);
+    let bar = [0, 0, 4, 0, 4, 1, 0, 1];
+    for height in [0, 2] {
+        let position = Position {
+            turn: 0,
+            column: 0,
+            height,
+        };
+        let answer = commit(&mut strip, &bar, position, &mut [0xFFFF; 6]);
+        assert_eq!(answer, Ok(()));
+    }
+    assert_eq!(placed_with_tries(&mut strip, &S, 1), (Ok((0, 0, 3)), 3));
 }
 
 /// Commits where place would not go: U over the tip of T, and where it is off the

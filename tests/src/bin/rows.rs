@@ -13,6 +13,8 @@ use reference::generate::{
     sound_outline, sound_pieces, sound_sheet, sound_strip, strip_with, stroke_outline, CommitKind,
     Damage, Job, ListDamage, OutlineKind, Random, SheetDamage, StripFigures, StrokeKind,
 };
+use reference::placing::{board_of, most_tries, next_height_plain, turned_piece, walk};
+use reference::questions::turns_of_mask;
 use reference::sheet::list_words;
 use reference::strip::LEADING;
 use reference::{ask, commit, cover, lay, lay_text, open, place, read, retrace, write};
@@ -41,7 +43,8 @@ use Rattle.defs.specs.Computing.Test.{listFrom}
 use Rattle.defs.specs.Computing.Cells.{Rows}
 use Rattle.defs.specs.Computing.Words.{wellFormedb, columnsRuns}
 use Rattle.defs.specs.Computing.Search.{position}
-use Rattle.defs.specs.Computing.Calls.{refusal, openAnswer, coverAnswer, coverOutput, placeAnswer, placedStrip, askAnswer, commitAnswer, listAnswers, Lent}
+use Rattle.defs.specs.Computing.Walk.{turnWalk, triesBound}
+use Rattle.defs.specs.Computing.Calls.{refusal, openAnswer, coverAnswer, coverOutput, placeAnswer, placedStrip, askAnswer, placeTries, commitAnswer, listAnswers, listTries, Lent}
 use Rattle.defs.specs.Computing.Sheets.{readAnswer, readOutput, writeAnswer, writeOutput}
 use Rattle.defs.specs.Computing.Lay.{layAnswer, layOutput}
 use Rattle.defs.specs.Computing.Ascii.{ascii}
@@ -231,17 +234,18 @@ fn list_row(random: &mut Random, table: &mut Table) {
     let (g, q) = (random.word(0, 4), random.word(1, 10));
     let mut strip = vec![0u16; LEADING + usize::from(n) + 4 * usize::from(q)];
     open(w, r, n, g, &mut strip).expect("figures in their limits");
-    let (mut calls, mut answers) = (Vec::new(), Vec::new());
+    let (mut calls, mut answers, mut tries) = (Vec::new(), Vec::new(), Vec::new());
     for _ in 0..random.between(1, 4) {
         let (outline, mask) = (small_outline(random), any_mask(random));
         let mut work = vec![1u16; random.index(30) + 8];
         calls.push(format!("piece {} {mask} {}", numbers(&outline), work.len()));
-        answers.push(placed(place(&mut strip, &outline, mask, &mut work)));
+        let tried = place(&mut strip, &outline, mask, &mut work);
+        answers.push(placed(tried.answer));
+        tries.push(tried.tries);
     }
-    table.row(
-        &format!("listAnswers {w} {r} {n} {g} {q} {}", list(calls)),
-        &list(answers),
-    );
+    let calls = format!("{w} {r} {n} {g} {q} {}", list(calls));
+    table.row(&format!("listAnswers {calls}"), &list(answers));
+    table.row(&format!("listTries {calls}"), &numbers(&tries));
 }
 
 /// A strip with its records in any order.
@@ -260,10 +264,12 @@ fn place_row(random: &mut Random, table: &mut Table) {
     let (outline, mask) = (small_outline(random), any_mask(random));
     let mut after = strip.clone();
     let mut work = vec![1u16; random.index(30)];
-    let answer = placed(place(&mut after, &outline, mask, &mut work));
+    let tried = place(&mut after, &outline, mask, &mut work);
+    let answer = placed(tried.answer);
     let (strip, outline) = (numbers(&strip), numbers(&outline));
-    let call = format!("placeAnswer {strip} {outline} {mask} {}", work.len());
-    table.row(&call, &answer);
+    let call = format!("{strip} {outline} {mask} {}", work.len());
+    table.row(&format!("placeAnswer {call}"), &answer);
+    table.row(&format!("placeTries {call}"), &tried.tries.to_string());
     let left = format!("columnsRuns (placedStrip {strip} {outline} ({answer}))");
     table.row(&left, &columns(&after));
 }
@@ -279,13 +285,59 @@ fn ask_row(random: &mut Random, table: &mut Table) {
         _ => sound_outline(random, 15, 4),
     };
     let (mask, mut work) = (any_mask(random), vec![1u16; random.index(30)]);
-    let answer = match ask(&strip, &outline, mask, &mut work) {
+    let tried = ask(&strip, &outline, mask, &mut work);
+    let answer = match tried.answer {
         Ok(p) => format!("Found {}", position(p)),
         Err(refusal) => refused("NotFound", refusal),
     };
     let (strip, outline) = (numbers(&strip), numbers(&outline));
-    let call = format!("askAnswer {strip} {outline} {mask} {}", work.len());
-    table.row(&call, &answer);
+    let call = format!("{strip} {outline} {mask} {}", work.len());
+    table.row(&format!("askAnswer {call}"), &answer);
+    table.row(&format!("placeTries {call}"), &tried.tries.to_string());
+}
+
+/// The heights tried in each column, and the most that the tries may be, on a strip
+/// with runs enough for the walk to clash.
+fn walk_rows(random: &mut Random, table: &mut Table) {
+    let figures = StripFigures {
+        w: random.word(4, 12),
+        r: random.word(1, 3),
+        n: random.word(2, 6),
+        g: random.word(0, 4).saturating_sub(1),
+        q: 12,
+    };
+    let StripFigures { w, r, n, g, q } = figures;
+    let runs = loop {
+        let runs = random_runs(random, w, n, q);
+        if runs.iter().map(Vec::len).sum::<usize>() >= usize::from(n) {
+            break runs;
+        }
+    };
+    let strip = strip_with(random, figures, &runs);
+    let outline = loop {
+        let outline = sound_outline(random, 15, 5);
+        if outline.len() <= 16 {
+            break outline;
+        }
+    };
+    let (board, mask) = (board_of(&strip), random.word(1, 15));
+    let turns = turns_of_mask(mask).expect("1 to 15");
+    let pieces: Vec<_> = turns
+        .iter()
+        .map(|&turn| turned_piece(&outline, turn, board.r, board.g))
+        .collect();
+    let held = format!("{w} {r} {n} {g} {} {}", columns(&strip), numbers(&outline));
+    let mut pairs = 0;
+    for piece in &pieces {
+        let heights = walk(&board, piece, next_height_plain);
+        pairs += heights.iter().filter(|tried| !tried.is_empty()).count();
+        let heights = heights
+            .iter()
+            .map(|tried| list(tried.iter().map(i64::to_string)));
+        table.row(&format!("turnWalk {held} {}", piece.turn), &list(heights));
+    }
+    let most = most_tries(&board, &pieces, pairs);
+    table.row(&format!("triesBound {held} {mask}"), &most.to_string());
 }
 
 /// One commit of each kind, and one at the answer of an ask; what they leave is the
@@ -299,7 +351,7 @@ fn commit_rows(random: &mut Random, table: &mut Table) {
         };
         let mut work = vec![1u16; random.index(30)];
         let asked = ask(&strip, &outline, 15, &mut work);
-        let at = match (kind, asked) {
+        let at = match (kind, asked.answer) {
             (None, Ok(answer)) => answer,
             (kind, _) => {
                 let kind = kind.unwrap_or(CommitKind::Anywhere);
@@ -592,6 +644,7 @@ fn main() {
         list_row(&mut random, &mut table);
         place_row(&mut random, &mut table);
         ask_row(&mut random, &mut table);
+        walk_rows(&mut random, &mut table);
         commit_rows(&mut random, &mut table);
         every_commit_rows(&mut random, &mut table);
         strip_row(&mut random, &mut table);

@@ -10,7 +10,7 @@
 pub mod cells;
 
 use reference::generate::SheetPlan;
-use reference::{Figures, Piece, Position, Refusal, Totals};
+use reference::{Figures, Piece, Position, Refusal, Totals, Tried};
 
 /// Square S, 4 by 4.
 pub const S: [u16; 8] = [0, 0, 4, 0, 4, 4, 0, 4];
@@ -227,11 +227,12 @@ fn with_work<T>(length: usize, call: impl FnOnce(&mut [u16]) -> T) -> T {
 fn check_laying<T>(
     strip: &mut [u16],
     length: usize,
-    call: impl FnOnce(&mut [u16], &mut [u16]) -> Result<T, Refusal>,
-) -> Result<T, Refusal> {
+    call: impl FnOnce(&mut [u16], &mut [u16]) -> T,
+    granted: impl FnOnce(&T) -> bool,
+) -> T {
     let before = strip.to_vec();
     let answer = with_work(length, |work| call(strip, work));
-    if answer.is_ok() {
+    if granted(&answer) {
         assert!(reference::well_formed(strip));
         assert_eq!((&strip[..3], strip[4]), (&before[..3], before[4]));
     } else {
@@ -241,36 +242,51 @@ fn check_laying<T>(
 }
 
 /// Place with a work buffer of this length. "Place stays as ask and commit
-/// together": an ask with the same arguments has its answer, and a commit there
-/// leaves its runs.
+/// together": an ask with the same arguments has its answer and its tries, and a
+/// commit there leaves its runs.
+pub fn check_place_tries(strip: &mut [u16], outline: &[u16], mask: u16, length: usize) -> Tried {
+    let asked = check_ask_tries(strip, outline, mask, length);
+    let mut committed = strip.to_vec();
+    let place = |strip: &mut [u16], work: &mut [u16]| reference::place(strip, outline, mask, work);
+    let tried = check_laying(strip, length, place, |tried| tried.answer.is_ok());
+    assert_eq!(asked, tried, "ask answers what place does");
+    if let Ok(position) = tried.answer {
+        let commit = check_commit(&mut committed, outline, position, length);
+        assert_eq!(commit, Ok(()));
+        assert!(reference::same_strip(&committed, strip));
+    }
+    tried
+}
+
 pub fn check_place(
     strip: &mut [u16],
     outline: &[u16],
     mask: u16,
     length: usize,
 ) -> Result<Position, Refusal> {
-    let asked = check_ask(strip, outline, mask, length);
-    let mut committed = strip.to_vec();
-    let answer = check_laying(strip, length, |strip, work| {
-        reference::place(strip, outline, mask, work)
-    });
-    assert_eq!(asked, answer, "ask answers what place does");
-    if let Ok(position) = answer {
-        let commit = check_commit(&mut committed, outline, position, length);
-        assert_eq!(commit, Ok(()));
-        assert!(reference::same_strip(&committed, strip));
-    }
-    answer
+    check_place_tries(strip, outline, mask, length).answer
 }
 
-/// Ask with a work buffer of this length. The strip is lent to be read only.
+/// Ask with a work buffer of this length. The strip is lent to be read only. "0 where
+/// a check before 13 refuses."
+pub fn check_ask_tries(strip: &[u16], outline: &[u16], mask: u16, length: usize) -> Tried {
+    let tried = with_work(length, |work| reference::ask(strip, outline, mask, work));
+    if tried.answer.is_err_and(|refusal| refusal.number < 13) {
+        assert_eq!(tried.tries, 0);
+    }
+    if tried.answer.is_ok() {
+        assert!(tried.tries > 0, "the free position was tried");
+    }
+    tried
+}
+
 pub fn check_ask(
     strip: &[u16],
     outline: &[u16],
     mask: u16,
     length: usize,
 ) -> Result<Position, Refusal> {
-    with_work(length, |work| reference::ask(strip, outline, mask, work))
+    check_ask_tries(strip, outline, mask, length).answer
 }
 
 /// Commit with a work buffer of this length.
@@ -280,9 +296,9 @@ pub fn check_commit(
     position: Position,
     length: usize,
 ) -> Result<(), Refusal> {
-    check_laying(strip, length, |strip, work| {
-        reference::commit(strip, outline, position, work)
-    })
+    let commit =
+        |strip: &mut [u16], work: &mut [u16]| reference::commit(strip, outline, position, work);
+    check_laying(strip, length, commit, Result::is_ok)
 }
 
 /// Read with an output of this length; W, R, N and the list.

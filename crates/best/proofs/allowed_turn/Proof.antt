@@ -1,5 +1,6 @@
 -- An allowed turn is tried and merged; another is passed over. Assumes nothing.
 use mathlib.Core.Path.{sym, _∙_}
+use native.Mathlib.Omega.{arith}
 use Rattle.ranks.proofs.Ranks.{limit-few}
 use Rattle.best.proofs.Choices.{turn-more, turn-skipped}
 use Rattle.best.proofs.Turns.{keeps-turn, none-in-turn}
@@ -36,16 +37,17 @@ try-turn-requires c κs =
     )
 
 merge-requires : tie.Need-merge-requires
-merge-requires c κs = search needs
+merge-requires c κs =
+    omega (arith, c .before .before .try-turn .ensures .0 .few, c .before .before .before .before .before .before .before .before .before .before .before .before .before .pre .1 .1 .1 .0 .few, c .before .before .before .before .before .before .before .before .before .before .before .before .before .pre .1 .0)
 
 same-length : tie.Need-same-length
 same-length c = search needs
 
 returns : tie.Need-returns
-returns c = rw (c .merge .ensures) (turn-more (c .before .before .before .before .before .before .before .before .before .before .before .before .before .before .pre .1 .1 .1 .0) (sym (c .before .before .before .before .before .before .before .before .allows .ensures) ∙ c .before .before .before .before .before .before .before .if1 .taken) (c .before .before .before .before .before .limit-of .ensures) (c .before .before .before .try-turn .ensures .0), c .before .before .before .try-turn .ensures .1)
+returns c = rw (c .merge .ensures) (turn-more _ (c .before .before .before .before .before .before .before .before .before .before .before .before .before .before .pre .1 .1 .1 .0) (sym (c .before .before .before .before .before .before .before .before .allows .ensures) ∙ c .before .before .before .before .before .before .before .if1 .taken) (c .before .before .before .before .before .limit-of .ensures) (c .before .before .before .try-turn .ensures .0), c .before .before .before .try-turn .ensures .1)
 
 returns-2 : tie.Need-returns-2
-returns-2 c = (turn-skipped (c .before .before .before .before .before .before .before .pre .1 .1 .1 .0) (sym (c .before .allows .ensures) ∙ c .if1 .left), c .before .before .before .before .before .before .before .pre .1 .1 .1 .1)
+returns-2 c = (turn-skipped _ (c .before .before .before .before .before .before .before .pre .1 .1 .1 .0) (sym (c .before .allows .ensures) ∙ c .if1 .left), c .before .before .before .before .before .before .before .pre .1 .1 .1 .1)
 
 pub allowed-turn-spec : {M : Type 1} → statement M
 allowed-turn-spec =

@@ -13,14 +13,14 @@ use Rattle.best.proofs.best_turn.Tie as tie
 abbrev Inv-loop : tie.InvT-loop
 Inv-loop g gap first lows highs o b mask way lower work₀ s₀ t₀ work s t =
     (t ≤ 4) × (length work ≡ length work₀) ×
-    TurnsTo (g .width) (g .resolution) (g .columns) gap (tableOf first lows highs (g .columns)) o mask t (length work₀) s ×
+    TurnsTo (g .width) (g .resolution) (g .columns) gap (tableOf first lows highs (g .columns)) o mask t (length work₀) way s ×
     Kept o (g .resolution) gap work (s .stands .turn) (s .stands .runs)
 
 abbrev μ-loop : tie.MeasureT-loop
 μ-loop g gap first lows highs o b mask way lower work₀ s₀ t₀ work s t = 4 - t
 
 loop-holds : tie.Need-loop-holds Inv-loop μ-loop
-loop-holds c = (omega arith, refl, no-turns _ _ _ _ _ _ _ _, none-kept _ _ _ _)
+loop-holds c = (omega arith, refl, no-turns _ _ _ _ _ _ _ _ _, none-kept _ _ _ _)
 
 allowed-turn-requires : tie.Need-allowed-turn-requires Inv-loop μ-loop
 allowed-turn-requires c κs =

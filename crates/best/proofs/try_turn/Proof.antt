@@ -1,4 +1,6 @@
 -- One turn is counted, and searched where its runs fit. Assumes nothing.
+use mathlib.Core.Path.{refl, ap}
+use Rattle.ranks.specs.declared.Choice.the-variants.{Chosen}
 use Rattle.best.proofs.Turns.{too-many, stands, put-kept, frame, full-before, spot-fits, turn-tried}
 use borrow.Author.Needs.{needs}
 use Rattle.best.proofs.try_turn.Statement.{statement}
@@ -24,13 +26,13 @@ same-length : tie.Need-same-length
 same-length c = search needs
 
 returns : tie.Need-returns
-returns c = (too-many (c .before .before .before .put-runs .ensures) _ _ _ _ (c .if1 .taken), put-kept (c .before .before .before .put-runs .ensures))
+returns c = (too-many (c .before .before .before .put-runs .ensures) _ _ _ _ _ (c .if1 .taken), put-kept (c .before .before .before .put-runs .ensures))
 
 columns-for-requires : tie.Need-columns-for-requires
 columns-for-requires c κs = search needs
 
-cast-t20 : tie.Need-cast-t20
-cast-t20 c = search needs
+cast-t23 : tie.Need-cast-t23
+cast-t23 c = search needs
 
 search-requires : tie.Need-search-requires
 search-requires c κs =
@@ -47,14 +49,43 @@ search-requires c κs =
       ),
     )
 
-rank-requires : tie.Need-rank-requires
-rank-requires c κs = spot-fits _ _ _ _ (c .before .before .before .before .before .before .before .before .before .before .before .before .before .before .before .pre .0 .gap) (c .before .before .before .before .before .before .before .before .before .before .before .before .before .before .before .pre .0 .table) (stands (c .before .before .before .before .before .before .before .put-runs .ensures) (c .before .before .before .before .if1 .left)) (c .before .before .before .before .before .before .before .before .before .extent-of .ensures .0) (c .before .before .before .columns-for .ensures) (c .before .before .before .before .before .before .before .before .before .extent-of .ensures .1) _ (c .search .result) (c .before .before .before .before .before .before .before .before .before .before .before .before .before .before .before .pre .0 .width) (c .before .before .before .before .before .before .before .before .before .before .before .before .before .before .before .pre .0 .columns) (c .search .ensures)
+enum-known-spot : tie.Need-enum-known-spot
+enum-known-spot c = search needs
+
+enum-told : tie.Need-enum-told
+enum-told c = search needs
 
 same-length-2 : tie.Need-same-length-2
 same-length-2 c = search needs
 
 returns-2 : tie.Need-returns-2
-returns-2 c = (turn-tried _ _ _ _ (c .before .before .before .before .before .before .before .before .before .before .before .before .before .before .before .before .pre .0 .gap) (c .before .before .before .before .before .before .before .before .before .before .before .before .before .before .before .before .pre .0 .table) (stands (c .before .before .before .before .before .before .before .before .put-runs .ensures) (c .before .before .before .before .before .if1 .left)) (c .before .before .before .before .before .before .before .before .before .before .extent-of .ensures .0) (c .before .before .before .before .columns-for .ensures) (c .before .before .before .before .before .before .before .before .before .before .extent-of .ensures .1) _ _ (c .before .search .result) (c .before .search .ensures) (c .rank .ensures), put-kept (c .before .before .before .before .before .before .before .before .put-runs .ensures))
+returns-2 c =
+    let fits = stands (c .before .before .before .before .before .before .before .before .before .put-runs .ensures) (c .before .before .before .before .before .before .if1 .left) in
+    let extent = c .before .before .before .before .before .before .before .before .before .before .before .extent-of .ensures in (
+      turn-tried _ _ _ _ (c .before .before .before .before .before .before .before .before .before .before .before .before .before .before .before .before .before .pre .0 .gap) (c .before .before .before .before .before .before .before .before .before .before .before .before .before .before .before .before .before .pre .0 .table) fits (extent .0) (c .before .before .before .before .before .columns-for .ensures) (extent .1) _ _ _ (c .before .before .search .result)
+          (c .before .before .search .ensures) (rw (c .enum-told .given .1) refl),
+      put-kept (c .before .before .before .before .before .before .before .before .before .put-runs .ensures),
+    )
+
+rank-requires : tie.Need-rank-requires
+rank-requires c κs =
+    let pre = c .before .before .before .before .before .before .before .before .before .before .before .before .before .before .before .before .before .before .pre .0 in
+    let fits = stands (c .before .before .before .before .before .before .before .before .before .before .put-runs .ensures) (c .before .before .before .before .before .before .before .if1 .left) in
+    let extent = c .before .before .before .before .before .before .before .before .before .before .before .before .extent-of .ensures in
+    spot-fits _ _ _ _ (pre .gap) (pre .table) fits (extent .0) (c .before .before .before .before .before .before .columns-for .ensures) (extent .1) (pre .width) (pre .columns) (c .before .before .before .search .ensures)
+    (c .before .spot .given .1)
+
+same-length-3 : tie.Need-same-length-3
+same-length-3 c = search needs
+
+returns-3 : tie.Need-returns-3
+returns-3 c =
+    let fits = stands (c .before .before .before .before .before .before .before .before .before .before .before .put-runs .ensures) (c .before .before .before .before .before .before .before .before .if1 .left) in
+    let extent = c .before .before .before .before .before .before .before .before .before .before .before .before .before .extent-of .ensures in (
+      turn-tried _ _ _ _ (c .before .before .before .before .before .before .before .before .before .before .before .before .before .before .before .before .before .before .before .pre .0 .gap) (c .before .before .before .before .before .before .before .before .before .before .before .before .before .before .before .before .before .before .before .pre .0 .table) fits (extent .0) (c .before .before .before .before .before .before .before .columns-for .ensures) (extent .1) _ _ _ (c .before .before .before .before .search .result)
+          (c .before .before .before .before .search .ensures) (rw (c .before .before .spot .given .1) (ap Chosen (c .rank .ensures))),
+      put-kept (c .before .before .before .before .before .before .before .before .before .before .before .put-runs .ensures),
+    )
 
 pub try-turn-spec : {M : Type 1} → statement M
 try-turn-spec =
@@ -65,8 +96,12 @@ try-turn-spec =
     same-length
     returns
     columns-for-requires
-    cast-t20
+    cast-t23
     search-requires
-    rank-requires
+    enum-known-spot
+    enum-told
     same-length-2
-    returns-2)
+    returns-2
+    rank-requires
+    same-length-3
+    returns-3)

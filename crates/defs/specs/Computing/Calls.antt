@@ -25,6 +25,7 @@ use Rattle.defs.specs.Computing.Test.{ask, all}
 use Rattle.defs.specs.Computing.Cells.{Rows, pieceRuns, countRuns, ordersb, mostRuns}
 use Rattle.defs.specs.Computing.Words.{figuresNo, resolutionb, gapb, lengthb, wellFormedb, recordsOf, runsOf, columnsRuns, written}
 use Rattle.defs.specs.Computing.Search.{freeb, dropN, bestBelow, entered}
+use Rattle.defs.specs.Computing.Walk.{triesBelow}
 
 abbrev pub refusal : ℕ → ℕ → Refusal
 refusal n k = record { number = n; ordinal = k }
@@ -114,6 +115,19 @@ shown (NotPlaced r) = NotFound r
 
 unfoldable pub askAnswer : List ℕ → List ℕ → ℕ → ℕ → Asking
 askAnswer s o mask words = shown (placeAnswer s o mask words)
+
+-- S-5: "Ask and place report the tries made over all allowed turns, …, 0 where a check before 13 refuses."
+
+unfoldable pub triesOn : ℕ → ℕ → ℕ → ℕ → List (List Rows) → List ℕ → ℕ → ℕ → ℕ
+triesOn W R N g held o mask words =
+    ask (eqb (outlineNo o (q9b mask) mask R) 0) 0 λ _.
+    ask (q12b o mask R g words) 0 λ _.
+    triesBelow W R N g held o mask 4
+
+unfoldable pub placeTries : List ℕ → List ℕ → ℕ → ℕ → ℕ
+placeTries s o mask words =
+    ask (wellFormedb s) 0 λ _.
+    triesOn (widthOf s) (resolutionOf s) (columnsOf s) (gapOf s) (columnsRuns s) o mask words
 
 -- commit: "asks what place asks with that turn alone allowed", 18 "instead of 13"
 
@@ -207,6 +221,16 @@ placeAll s (c ∷ cs) =
 unfoldable pub listAnswers : ℕ → ℕ → ℕ → ℕ → ℕ → List Lent → List Placing
 listAnswers W R N g Q cs = placeAll (openedStrip W R N g (leadingWords + N + recordWords * Q)) cs
 
+-- The tries of such a list.
+unfoldable pub triesAll : List ℕ → List Lent → List ℕ
+triesAll s [] = []
+triesAll s (c ∷ cs) =
+    let a = placeAnswer s (c .outline) (c .mask) (c .words) in
+    placeTries s (c .outline) (c .mask) (c .words) ∷ triesAll (placedStrip s (c .outline) a) cs
+
+unfoldable pub listTries : ℕ → ℕ → ℕ → ℕ → ℕ → List Lent → List ℕ
+listTries W R N g Q cs = triesAll (openedStrip W R N g (leadingWords + N + recordWords * Q)) cs
+
 -- The contracts of the calls.
 
 pub record OpenStep (W R N g : ℕ) (s : List ℕ) (a : Opening) (s' : List ℕ) : Type 0 where
@@ -218,14 +242,16 @@ pub record CoverStep (o : List ℕ) (t R g : ℕ) (out : List ℕ) (a : Covering
   pub output : out' ≡ coverOutput o t R g out a
 
 -- S-2: "Place stays as ask and commit together", which is `Place-is-ask-and-commit` of claims/specs/Asking.
-pub record PlaceStep (s o : List ℕ) (mask : ℕ) (work : List ℕ) (a : Placing) (s' work' : List ℕ) : Type 0 where
+pub record PlaceStep (s o : List ℕ) (mask : ℕ) (work : List ℕ) (a : Placing) (tries : ℕ) (s' work' : List ℕ) : Type 0 where
   pub answer : a ≡ placeAnswer s o mask (length work)
+  pub counted : tries ≡ placeTries s o mask (length work)
   pub strip : PlaceLeaves s o a s'
   pub zeros : work' ≡ cleared work
 
 -- "Ask answers the position that place would give, or its number, and changes no strip word."
-pub record AskStep (s o : List ℕ) (mask : ℕ) (work : List ℕ) (a : Asking) (s' work' : List ℕ) : Type 0 where
+pub record AskStep (s o : List ℕ) (mask : ℕ) (work : List ℕ) (a : Asking) (tries : ℕ) (s' work' : List ℕ) : Type 0 where
   pub answer : a ≡ askAnswer s o mask (length work)
+  pub counted : tries ≡ placeTries s o mask (length work)
   pub strip : s' ≡ s
   pub zeros : work' ≡ cleared work
 

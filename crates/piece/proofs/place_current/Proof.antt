@@ -38,7 +38,7 @@ same-length-7 : tie.Need-same-length-7
 same-length-7 c = search needs
 
 returns : tie.Need-returns
-returns c = rw (c .before .before .before .before .before .before .before .before .before .before .before .before .before .before .before .before .if1 .taken) (placed-second (rw (c .before .before .before .before .before .before .before .before .before .before .before .before .before .before .before .before .if1 .taken) at (c .before .before .before .before .before .before .before .before .before .before .before .before .before .before .before .before .before .before .before .before .before .before .before .before .before .pre .0)) (roomy (c .before .before .before .before .before .before .before .before .before .before .before .before .before .before .before .before .before .before .before .before .before .before .before .before .before .pre .0 .room) (search needs) (search needs) (search needs)) (c .before .before .before .before .before .before .before .before .place-asked .ensures))
+returns c = rw (c .before .before .before .before .before .before .before .before .before .before .before .before .before .before .before .before .if1 .taken) (placed-second (rw (c .before .before .before .before .before .before .before .before .before .before .before .before .before .before .before .before .if1 .taken) at (c .before .before .before .before .before .before .before .before .before .before .before .before .before .before .before .before .before .before .before .before .before .before .before .before .before .pre .0)) (roomy (c .before .before .before .before .before .before .before .before .before .before .before .before .before .before .before .before .before .before .before .before .before .before .before .before .before .pre .0 .room) (search needs) (search needs) (search needs)) (c .before .before .before .before .before .before .before .before .place-asked .ensures .placed))
 
 same-length-8 : tie.Need-same-length-8
 same-length-8 c = search needs
@@ -62,7 +62,7 @@ same-length-14 : tie.Need-same-length-14
 same-length-14 c = search needs
 
 returns-2 : tie.Need-returns-2
-returns-2 c = rw (c .before .before .before .before .before .before .before .before .before .before .before .before .before .before .before .before .if1 .left) (placed-first (rw (c .before .before .before .before .before .before .before .before .before .before .before .before .before .before .before .before .if1 .left) at (c .before .before .before .before .before .before .before .before .before .before .before .before .before .before .before .before .before .before .before .before .before .before .before .before .before .pre .0)) (roomy (c .before .before .before .before .before .before .before .before .before .before .before .before .before .before .before .before .before .before .before .before .before .before .before .before .before .pre .0 .room₂) (search needs) (search needs) (search needs)) (c .before .before .before .before .before .before .before .before .place-asked2 .ensures))
+returns-2 c = rw (c .before .before .before .before .before .before .before .before .before .before .before .before .before .before .before .before .if1 .left) (placed-first (rw (c .before .before .before .before .before .before .before .before .before .before .before .before .before .before .before .before .if1 .left) at (c .before .before .before .before .before .before .before .before .before .before .before .before .before .before .before .before .before .before .before .before .before .before .before .before .before .pre .0)) (roomy (c .before .before .before .before .before .before .before .before .before .before .before .before .before .before .before .before .before .before .before .before .before .before .before .before .before .pre .0 .room₂) (search needs) (search needs) (search needs)) (c .before .before .before .before .before .before .before .before .place-asked2 .ensures .placed))
 
 pub place-current-spec : {M : Type 1} → statement M
 place-current-spec =

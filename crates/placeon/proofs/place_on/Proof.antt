@@ -1,6 +1,6 @@
 -- 7 to 10 are asked before the others. Assumes nothing.
 use Rattle.tables.proofs.Copies.{none-before-0}
-use Rattle.position.proofs.Answers.{passed, refused-to-ten, refused-on, to-ten}
+use Rattle.position.proofs.Answers.{passed, refused-to-ten, untried-on, to-ten}
 use borrow.Author.Needs.{needs}
 use Rattle.placeon.proofs.place_on.Statement.{statement}
 use Rattle.placeon.proofs.place_on.Tie as tie
@@ -11,11 +11,11 @@ nine-requires c κs = search needs
 order-no-requires : tie.Need-order-no-requires
 order-no-requires c κs = search needs
 
-refused-requires : tie.Need-refused-requires
-refused-requires c κs = search needs
+untried-requires : tie.Need-untried-requires
+untried-requires c κs = search needs
 
 returns : tie.Need-returns
-returns c = refused-on (c .refused .ensures) (to-ten _ _ _ _ _ _ _ _ _ (c .before .before .before .before .before .before .before .before .before .before .before .before .pre .limits .resolution .at-least) (refused-to-ten _ _ (c .before .before .before .nine .ensures) (c .before .before .order-no .ensures) (c .before .if1 .taken)) (c .before .if1 .taken))
+returns c = untried-on _ (c .untried .ensures) (to-ten _ _ _ _ _ _ _ _ _ (c .before .before .before .before .before .before .before .before .before .before .before .before .pre .limits .resolution .at-least) (refused-to-ten _ _ (c .before .before .before .nine .ensures) (c .before .before .order-no .ensures) (c .before .if1 .taken)) (c .before .if1 .taken))
 
 place-asked-requires : tie.Need-place-asked-requires
 place-asked-requires c κs = (
@@ -47,7 +47,7 @@ place-on-spec =
     (tie.spec
     nine-requires
     order-no-requires
-    refused-requires
+    untried-requires
     returns
     place-asked-requires
     same-length

@@ -2,7 +2,7 @@
 use mathlib.Core.Path.{refl}
 use Rattle.geom.proofs.Checks.{question-10}
 use Rattle.checks.proofs.Turned.{lent-of}
-use Rattle.position.proofs.Answers.{refused-on, placed-on, ready, eleven, twelve, thirteen, fourteen, enterable}
+use Rattle.position.proofs.Answers.{refused-on, untried-on, placed-on, ready, eleven, twelve, thirteen, fourteen, tries-on, enterable}
 use borrow.Author.Needs.{needs}
 use Rattle.position.proofs.place_asked.Statement.{statement}
 use Rattle.position.proofs.place_asked.Tie as tie
@@ -13,23 +13,23 @@ bounds-of-requires c κs = let y = c .before .before .before .before .before .be
 best-turn-requires : tie.Need-best-turn-requires
 best-turn-requires c κs = let y = c .before .before .before .before .before .before .before .before .before .before .pre .1 .0 in (ready (c .before .before .before .before .before .before .before .before .before .before .pre .0) y (c .before .bounds-of .ensures), (question-10 _ _ .0 (y .ten), c .before .before .before .before .before .before .before .before .before .before .pre .1 .1))
 
-refused-requires : tie.Need-refused-requires
-refused-requires c κs = search needs
+untried-requires : tie.Need-untried-requires
+untried-requires c κs = search needs
 
 same-length : tie.Need-same-length
 same-length c = search needs
 
 returns : tie.Need-returns
-returns c = refused-on (c .refused .ensures) (eleven _ _ _ _ _ _ _ _ _ (c .before .before .before .before .before .before .before .before .before .before .before .before .before .before .before .before .pre .0 .limits .resolution .at-least) (c .before .before .before .before .before .before .before .before .before .before .before .before .before .before .before .before .pre .1 .0) (c .before .before .before .before .before .best-turn .ensures .0) (c .before .if1 .taken))
+returns c = untried-on _ (c .untried .ensures) (eleven _ _ _ _ _ _ _ _ _ (c .before .before .before .before .before .before .before .before .before .before .before .before .before .before .before .before .pre .0 .limits .resolution .at-least) (c .before .before .before .before .before .before .before .before .before .before .before .before .before .before .before .before .pre .1 .0) (c .before .before .before .before .before .best-turn .ensures .0) (c .before .if1 .taken))
 
-refused-requires-2 : tie.Need-refused-requires-2
-refused-requires-2 c κs = search needs
+untried-requires-2 : tie.Need-untried-requires-2
+untried-requires-2 c κs = search needs
 
 same-length-2 : tie.Need-same-length-2
 same-length-2 c = search needs
 
 returns-2 : tie.Need-returns-2
-returns-2 c = refused-on (c .refused2 .ensures) (twelve _ _ _ _ _ _ _ _ _ (c .before .before .before .before .before .before .before .before .before .before .before .before .before .before .before .before .before .before .pre .0 .limits .resolution .at-least) (c .before .before .before .before .before .before .before .before .before .before .before .before .before .before .before .before .before .before .pre .1 .0) (c .before .before .before .before .before .before .before .best-turn .ensures .0) (c .before .before .before .if1 .left) (c .before .if2 .taken))
+returns-2 c = untried-on _ (c .untried2 .ensures) (twelve _ _ _ _ _ _ _ _ _ (c .before .before .before .before .before .before .before .before .before .before .before .before .before .before .before .before .before .before .pre .0 .limits .resolution .at-least) (c .before .before .before .before .before .before .before .before .before .before .before .before .before .before .before .before .before .before .pre .1 .0) (c .before .before .before .before .before .before .before .best-turn .ensures .0) (c .before .before .before .if1 .left) (c .before .if2 .taken))
 
 enum-known-c : tie.Need-enum-known-c
 enum-known-c c = search needs
@@ -40,8 +40,8 @@ enter-at-requires c κs = (c .before .before .before .before .before .before .be
 enum-told : tie.Need-enum-told
 enum-told c = search needs
 
-refused-requires-3 : tie.Need-refused-requires-3
-refused-requires-3 c κs = search needs
+refused-requires : tie.Need-refused-requires
+refused-requires c κs = search needs
 
 same-length-3 : tie.Need-same-length-3
 same-length-3 c = search needs
@@ -56,13 +56,21 @@ same-length-6 : tie.Need-same-length-6
 same-length-6 c = search needs
 
 returns-3 : tie.Need-returns-3
-returns-3 c = placed-on _ (c .before .before .before .before .before .before .before .before .enter-at .ensures) (fourteen _ _ _ _ _ _ _ _ _ (c .before .before .before .before .before .before .before .before .before .before .before .before .before .before .before .before .before .before .before .before .before .before .before .before .before .before .before .before .before .before .before .before .before .before .pre .0 .limits .resolution .at-least) (c .before .before .before .before .before .before .before .before .before .before .before .before .before .before .before .before .before .before .before .before .before .before .before .before .before .before .before .before .before .before .before .before .before .before .pre .1 .0) (c .before .before .before .before .before .before .before .before .before .before .before .before .before .before .before .before .before .before .before .before .before .before .before .best-turn .ensures .0) (c .before .before .before .before .before .before .before .before .before .before .before .before .before .before .before .before .before .before .before .if1 .left) (c .before .before .before .before .before .before .before .before .before .before .before .before .before .before .before .before .before .if2 .left) _ (c .before .before .before .before .before .before .before .before .before .before .before .before .before .before .c .given .1))
+returns-3 c =
+    record {
+      placed = placed-on _ (c .before .before .before .before .before .before .before .before .enter-at .ensures) (fourteen _ _ _ _ _ _ _ _ _ (c .before .before .before .before .before .before .before .before .before .before .before .before .before .before .before .before .before .before .before .before .before .before .before .before .before .before .before .before .before .before .before .before .before .before .pre .0 .limits .resolution .at-least) (c .before .before .before .before .before .before .before .before .before .before .before .before .before .before .before .before .before .before .before .before .before .before .before .before .before .before .before .before .before .before .before .before .before .before .pre .1 .0) (c .before .before .before .before .before .before .before .before .before .before .before .before .before .before .before .before .before .before .before .before .before .before .before .best-turn .ensures .0) (c .before .before .before .before .before .before .before .before .before .before .before .before .before .before .before .before .before .before .before .if1 .left) (c .before .before .before .before .before .before .before .before .before .before .before .before .before .before .before .before .before .if2 .left) _ (c .before .before .before .before .before .before .before .before .before .before .before .before .before .before .c .given .1));
+      counted = tries-on _ _ _ _ (c .before .before .before .before .before .before .before .before .before .before .before .before .before .before .before .before .before .before .before .before .before .before .before .before .before .before .before .before .before .before .before .before .before .before .args .q) _ _ _ _ (c .before .before .before .before .before .before .before .before .before .before .before .before .before .before .before .before .before .before .before .before .before .before .before .before .before .before .before .before .before .before .before .before .before .before .pre .0 .limits .resolution .at-least) (c .before .before .before .before .before .before .before .before .before .before .before .before .before .before .before .before .before .before .before .before .before .before .before .before .before .before .before .before .before .before .before .before .before .before .pre .1 .0) (c .before .before .before .before .before .before .before .before .before .before .before .before .before .before .before .before .before .before .before .before .before .before .before .best-turn .ensures .0) (c .before .before .before .before .before .before .before .before .before .before .before .before .before .before .before .before .before .before .before .if1 .left) (c .before .before .before .before .before .before .before .before .before .before .before .before .before .before .before .before .before .if2 .left);
+    }
 
 same-length-7 : tie.Need-same-length-7
 same-length-7 c = search needs
 
 returns-4 : tie.Need-returns-4
-returns-4 c = refused-on (c .refused3 .ensures) (thirteen _ _ _ _ _ _ _ _ _ (c .before .before .before .before .before .before .before .before .before .before .before .before .before .before .before .before .before .before .before .before .before .pre .0 .limits .resolution .at-least) (c .before .before .before .before .before .before .before .before .before .before .before .before .before .before .before .before .before .before .before .before .before .pre .1 .0) (c .before .before .before .before .before .before .before .before .before .before .best-turn .ensures .0) (c .before .before .before .before .before .before .if1 .left) (c .before .before .before .before .if2 .left) (c .before .enum-told .given .1))
+returns-4 c =
+    record {
+      placed = refused-on (c .refused .ensures) (thirteen _ _ _ _ _ _ _ _ _ (c .before .before .before .before .before .before .before .before .before .before .before .before .before .before .before .before .before .before .before .before .before .pre .0 .limits .resolution .at-least) (c .before .before .before .before .before .before .before .before .before .before .before .before .before .before .before .before .before .before .before .before .before .pre .1 .0) (c .before .before .before .before .before .before .before .before .before .before .best-turn .ensures .0) (c .before .before .before .before .before .before .if1 .left) (c .before .before .before .before .if2 .left) (c .before .enum-told .given .1));
+      counted = tries-on _ _ _ _ (c .before .before .before .before .before .before .before .before .before .before .before .before .before .before .before .before .before .before .before .before .before .args .q) _ _ _ _ (c .before .before .before .before .before .before .before .before .before .before .before .before .before .before .before .before .before .before .before .before .before .pre .0 .limits .resolution .at-least) (c .before .before .before .before .before .before .before .before .before .before .before .before .before .before .before .before .before .before .before .before .before .pre .1 .0) (c .before .before .before .before .before .before .before .before .before .before .best-turn .ensures .0) (c .before .before .before .before .before .before .if1 .left) (c .before .before .before .before .if2 .left);
+    }
 
 pub place-asked-spec : {M : Type 1} → statement M
 place-asked-spec =
@@ -70,16 +78,16 @@ place-asked-spec =
     (tie.spec
     bounds-of-requires
     best-turn-requires
-    refused-requires
+    untried-requires
     same-length
     returns
-    refused-requires-2
+    untried-requires-2
     same-length-2
     returns-2
     enum-known-c
     enter-at-requires
     enum-told
-    refused-requires-3
+    refused-requires
     same-length-3
     same-length-4
     same-length-5

@@ -1,5 +1,5 @@
--- The walk searches all columns, the way round those up to the limit. Assumes nothing.
-use Rattle.search.proofs.Searched.{walked-to, rounded-to}
+-- The walk searches all columns and counts, the way round those up to the limit. Assumes nothing.
+use Rattle.search.proofs.Searched.{walked-looks, rounded-looks}
 use borrow.Author.Needs.{needs}
 use Rattle.search.proofs.search.Statement.{statement}
 use Rattle.search.proofs.search.Tie as tie
@@ -23,13 +23,14 @@ round-range-requires : tie.Need-round-range-requires
 round-range-requires c κs = search needs
 
 returns : tie.Need-returns
-returns c = walked-to _ _ _ _ _ _ _ _ _ _ (c .walk-turn .result) (c .before .before .before .before .before .before .before .pre .1 .2) (c .walk-turn .ensures)
+returns c = rw (c .before .enum-told .given .1) (walked-looks _ _ _ _ _ _ _ _ _ _ (c .walk-turn .result) (c .before .before .before .before .before .before .before .pre .1 .2) (c .walk-turn .ensures))
 
 returns-2 : tie.Need-returns-2
 returns-2 c =
     let pre = c .before .before .before .before .before .before .before .before .before .pre .1 in
-    rounded-to _ _ _ _ _ _ _ _ _ _ (c .round-range .result) (pre .2) (pre .3) (c .before .before .start-at .ensures)
-    (c .before .stop-at .ensures) (c .round-range .ensures)
+    rw (c .before .before .before .enum-told2 .given .1)
+    (rounded-looks _ _ _ _ _ _ _ _ _ _ (c .round-range .result) (pre .2) (pre .3) (c .before .before .start-at .ensures) (c .before .stop-at .ensures)
+    (c .round-range .ensures))
 
 pub search-spec : {M : Type 1} → statement M
 search-spec =

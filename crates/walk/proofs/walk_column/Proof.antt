@@ -1,18 +1,21 @@
--- `walk_column` meets its contract: no height below the one that is tried is free, and the runs before the one that is tried stay free up to
--- `stay`. Each try goes on by a run or up by a jump, so the tries come to an end. Runs past the last column count for nothing.
+-- `walk_column` meets its contract: no height below the one that is tried is free, the runs before the one that is tried stay free up to
+-- `stay`, and the tries counted with what is left of the walk give the whole walk. Each step goes on by a run or up by a jump, so the tries
+-- come to an end. Runs past the last column count for nothing.
 -- Assumes nothing.
 use borrow.Author.Needs.{needs}
 use native.Mathlib.Omega.{arith}
 use Prim.Native.Nat.{_+_, _-_, _*_}
 use Rattle.walk.proofs.Jumps.{Going, going-start, going-clear, going-jump, going-stop, going-end, falls, run-column, least-all, none-all}
+use Rattle.walk.proofs.Counts.{Counted, count-start, count-end, count-stop, count-jump, steps-all}
 use Rattle.walk.proofs.walk_column.Statement.{statement}
 use Rattle.walk.proofs.walk_column.Tie as tie
 
 abbrev Inv-loop : tie.InvT-loop
-Inv-loop first lows highs runs c top n p y₀ k₀ stay₀ y k stay = Going first lows highs runs n p c top y k stay
+Inv-loop first lows highs runs c top n p y₀ k₀ stay₀ tries₀ y k stay tries =
+    Going first lows highs runs n p c top y k stay × Counted first lows highs runs n p c top y tries
 
 abbrev μ-loop : tie.MeasureT-loop
-μ-loop first lows highs runs c top n p y₀ k₀ stay₀ y k stay = (top - y) * (p + 1) + (p - k)
+μ-loop first lows highs runs c top n p y₀ k₀ stay₀ tries₀ y k stay tries = (top - y) * (p + 1) + (p - k)
 
 sub-top : tie.Need-sub-top Inv-loop μ-loop
 sub-top c = search needs
@@ -24,7 +27,7 @@ runs-before-requires : tie.Need-runs-before-requires Inv-loop μ-loop
 runs-before-requires c κs = record { reach = _; rows = _; piece = c .before .before .before .before .before .pre .0 .piece }
 
 loop-holds : tie.Need-loop-holds Inv-loop μ-loop
-loop-holds c = going-start _ _ _ _ _ _ _ _
+loop-holds c = (going-start _ _ _ _ _ _ _ _, count-start _ _ _ _ _ _ _ _)
 
 mul-col : tie.Need-mul-col Inv-loop μ-loop
 mul-col c = omega (arith, c .before .before .runs-before .ensures .few, c .before .before .before .before .before .before .before .before .pre .0 .piece .long, c .before .before .before .before .before .before .before .before .good)
@@ -69,7 +72,7 @@ try-run-requires : tie.Need-try-run-requires Inv-loop μ-loop
 try-run-requires c κs =
     let pre = c .before .before .before .before .before .before .before .before .before .before .before .pre in
     let k = c .before .before .before .before .loop .k in
-    let g = c .before .before .before .before .loop .inv in
+    let g = c .before .before .before .before .loop .inv .0 in
     let b = c .before .before .before .before .before .runs-before .ensures in (
       run-column (pre .0) _ (omega (arith, pre .1)) b (omega arith),
       (
@@ -89,7 +92,9 @@ loop-less : tie.Need-loop-less Inv-loop μ-loop
 loop-less c = omega arith
 
 loop-again : tie.Need-loop-again Inv-loop μ-loop
-loop-again c = going-clear (c .before .before .before .before .before .before .before .before .loop .inv) (omega arith) (rw (c .before .z .given .1) at (c .before .before .before .try-run .ensures))
+loop-again c =
+    let inv = c .before .before .before .before .before .before .before .before .loop .inv in
+    (going-clear (inv .0) (omega arith) (rw (c .before .z .given .1) at (c .before .before .before .try-run .ensures)), inv .1)
 
 enum-known-z-2 : tie.Need-enum-known-z-2 Inv-loop μ-loop
 enum-known-z-2 c = search needs
@@ -98,27 +103,46 @@ returns : tie.Need-returns Inv-loop μ-loop
 returns c =
     let pre = c .before .before .before .before .before .before .before .before .before .before .before .before .before .before .before .before .pre in
     let b = c .before .before .before .before .before .before .before .before .before .before .runs-before .ensures in
-    none-all (omega (arith, pre .1)) b
-    (going-stop (pre .0) (omega (arith, pre .1)) b (omega arith) (c .before .before .before .before .before .before .before .before .before .loop .inv) (rw (c .before .before .z2 .given .1) at (c .before .before .before .before .try-run .ensures)) (omega arith)
-    (omega arith))
+    let inv = c .before .before .before .before .before .before .before .before .before .loop .inv in
+    let lands = rw (c .before .before .z2 .given .1) at (c .before .before .before .before .try-run .ensures) in
+    record {
+      height = none-all (omega (arith, pre .1)) b (going-stop (pre .0) (omega (arith, pre .1)) b (omega arith) (inv .0) lands (omega arith) (omega arith));
+      steps = steps-all (omega (arith, pre .1)) b (count-stop (inv .0) (inv .1) (omega arith) (omega (arith, b .inside (c .before .before .before .before .before .before .before .before .before .loop .k) (omega arith), pre .1)) lands (omega arith) (omega arith));
+      few = omega (arith, inv .1 .few, inv .0 .low, inv .0 .high);
+    }
 
 go-on-requires : tie.Need-go-on-requires Inv-loop μ-loop
-go-on-requires c κs = omega (arith, c .before .before .before .before .before .before .before .before .before .loop .inv .high)
+go-on-requires c κs = omega (arith, c .before .before .before .before .before .before .before .before .before .loop .inv .0 .high)
+
+add-tries : tie.Need-add-tries Inv-loop μ-loop
+add-tries c = omega (arith, c .before .before .before .before .before .before .before .before .before .before .loop .inv .1 .few)
 
 loop-less-2 : tie.Need-loop-less-2 Inv-loop μ-loop
 loop-less-2 c =
     let pre = c .before .before .before .before .before .before .before .before .before .before .before .before .before .before .before .before .before .pre in
-    falls (pre .0) (omega (arith, pre .1)) (c .before .before .before .before .before .before .before .before .before .before .before .runs-before .ensures) (omega arith) (c .before .before .before .before .before .before .before .before .before .before .loop .inv)
+    falls (pre .0) (omega (arith, pre .1)) (c .before .before .before .before .before .before .before .before .before .before .before .runs-before .ensures) (omega arith) (c .before .before .before .before .before .before .before .before .before .before .loop .inv .0)
     (rw (c .before .before .before .z2 .given .1) at (c .before .before .before .before .before .try-run .ensures)) (c .go-on .ensures)
 
 loop-again-2 : tie.Need-loop-again-2 Inv-loop μ-loop
 loop-again-2 c =
     let pre = c .before .before .before .before .before .before .before .before .before .before .before .before .before .before .before .before .before .pre in
-    going-jump (pre .0) (omega (arith, pre .1)) (c .before .before .before .before .before .before .before .before .before .before .before .runs-before .ensures) (omega arith) (c .before .before .before .before .before .before .before .before .before .before .loop .inv)
-    (rw (c .before .before .before .z2 .given .1) at (c .before .before .before .before .before .try-run .ensures)) (c .go-on .ensures)
+    let b = c .before .before .before .before .before .before .before .before .before .before .before .runs-before .ensures in
+    let inv = c .before .before .before .before .before .before .before .before .before .before .loop .inv in
+    let lands = rw (c .before .before .before .z2 .given .1) at (c .before .before .before .before .before .try-run .ensures) in (
+      going-jump (pre .0) (omega (arith, pre .1)) b (omega arith) (inv .0) lands (c .go-on .ensures),
+      count-jump (inv .0) (inv .1) (omega arith) (omega (arith, b .inside (c .before .before .before .before .before .before .before .before .before .before .loop .k) (omega arith), pre .1)) lands,
+    )
 
 returns-2 : tie.Need-returns-2 Inv-loop μ-loop
-returns-2 c = least-all (omega (arith, c .before .before .before .before .before .before .before .before .pre .1)) (c .before .before .runs-before .ensures) (going-end (c .before .loop .inv) (omega arith) (omega arith))
+returns-2 c =
+    let pre = c .before .before .before .before .before .before .before .before .pre in
+    let b = c .before .before .runs-before .ensures in
+    let inv = c .before .loop .inv in
+    record {
+      height = least-all (omega (arith, pre .1)) b (going-end (inv .0) (omega arith) (omega arith));
+      steps = steps-all (omega (arith, pre .1)) b (count-end (inv .0) (inv .1) (omega arith) (omega arith));
+      few = omega (arith, inv .1 .few, inv .0 .low, inv .0 .high);
+    }
 
 pub walk-column-spec : {M : Type 1} → statement M
 walk-column-spec =
@@ -151,6 +175,7 @@ walk-column-spec =
     enum-known-z-2
     returns
     go-on-requires
+    add-tries
     loop-less-2
     loop-again-2
     returns-2)

@@ -34,8 +34,8 @@ look-decoded-requires c κs = (rw (c .before .before .before .before .before .be
 enum-told : tie.Need-enum-told
 enum-told c = search needs
 
-refused-requires : tie.Need-refused-requires
-refused-requires c κs = search needs
+untried-requires : tie.Need-untried-requires
+untried-requires c κs = search needs
 
 same-length : tie.Need-same-length
 same-length c = search needs
@@ -53,7 +53,7 @@ returns : tie.Need-returns
 returns c = search needs
 
 returns-2 : tie.Need-returns-2
-returns-2 c = not-formed _ (rw (c .before .enum-told .given .1) at (c .before .before .before .before .before .before .decode .ensures)) (c .refused .ensures)
+returns-2 c = not-formed _ (rw (c .before .enum-told .given .1) at (c .before .before .before .before .before .before .decode .ensures)) (c .untried .ensures)
 
 pub look-spec : {M : Type 1} → statement M
 look-spec =
@@ -69,7 +69,7 @@ look-spec =
     slice-aggregate-look-decoded-3
     look-decoded-requires
     enum-told
-    refused-requires
+    untried-requires
     same-length
     same-length-2
     same-length-3

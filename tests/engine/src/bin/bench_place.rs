@@ -6,18 +6,16 @@
 //! strip's words at each call and writes them anew: beside its own form, from which
 //! it is spared to make its columns. The engine's calls on buffers of bytes are
 //! measured beside its own on words, and so are lists in two steps: an ask, and a
-//! commit at its answer.
+//! commit at its answer. All programs count their tries, which are printed.
 
 use engine::plain_place::Board;
 use engine::{data, plain_strip};
-use reference::{Position, Refusal};
+use reference::Tried;
 use std::time::Instant;
 
 const WIDTH: u16 = 8_000;
 /// As many words as the program `lay` has.
 const WORK: usize = 9_000;
-
-type Answer = Result<Position, Refusal>;
 
 struct List {
     outlines: Vec<Vec<u16>>,
@@ -30,11 +28,11 @@ struct List {
 
 /// The answers of one run of a list, and its microseconds after each quarter.
 struct Laid {
-    answers: Vec<Answer>,
+    answers: Vec<Tried>,
     quarters: [f64; 4],
 }
 
-fn laid(list: &List, start: Instant, mut place: impl FnMut(&[u16]) -> Answer) -> Laid {
+fn laid(list: &List, start: Instant, mut place: impl FnMut(&[u16]) -> Tried) -> Laid {
     let mut answers = Vec::with_capacity(list.outlines.len());
     let mut quarters = [0.0; 4];
     let mut before = 0.0;
@@ -75,19 +73,19 @@ fn by_engine_on_bytes(
 }
 
 /// The same in two steps; the microseconds of all asks and of all commits.
-fn in_two_steps(list: &List, strip: &mut [u16], work: &mut [u16]) -> (Vec<Answer>, [f64; 2]) {
+fn in_two_steps(list: &List, strip: &mut [u16], work: &mut [u16]) -> (Vec<Tried>, [f64; 2]) {
     let mut times = [0.0; 2];
     assert!(engine::open(WIDTH, list.r, list.n, list.g, strip).is_ok());
     let answers = list.outlines.iter().map(|outline| {
         let start = Instant::now();
-        let answer = engine::ask(strip, outline, list.mask, work);
+        let tried = engine::ask(strip, outline, list.mask, work);
         let between = start.elapsed();
-        if let Ok(position) = answer {
+        if let Ok(position) = tried.answer {
             assert!(engine::commit(strip, outline, position, work).is_ok());
         }
         times[0] += 1e6 * between.as_secs_f64();
         times[1] += 1e6 * (start.elapsed() - between).as_secs_f64();
-        answer
+        tried
     });
     (answers.collect(), times)
 }
@@ -105,11 +103,11 @@ fn by_plain_on_words(list: &List, strip: &mut [u16]) -> Laid {
     let mut board = Board::open(WIDTH, list.r, list.n, list.g, list.q);
     laid(list, start, |outline| {
         assert!(plain_strip::decode(strip).is_some());
-        let answer = board.place(outline, list.mask, WORK);
-        if answer.is_ok() {
+        let tried = board.place(outline, list.mask, WORK);
+        if tried.answer.is_ok() {
             plain_strip::write_columns(strip, board.columns());
         }
-        answer
+        tried
     })
 }
 
@@ -124,7 +122,7 @@ fn row(name: &str, list: &List) {
     let outlines: Vec<Vec<u8>> = list.outlines.iter().map(bytes).collect();
     let (mut engine, mut plain, mut on_words) = ([f64::MAX; 4], [f64::MAX; 4], [f64::MAX; 4]);
     let (mut on_bytes, mut steps) = (f64::MAX, [f64::MAX; 2]);
-    let mut placed = 0;
+    let (mut placed, mut tries) = (0, 0u64);
     let start = Instant::now();
     let mut rounds = 0;
     while rounds < 5 || (rounds < 40 && start.elapsed().as_millis() < 1_500) {
@@ -142,7 +140,13 @@ fn row(name: &str, list: &List) {
         assert!(reference::strip_runs(&strip) == board.columns());
         let third = by_plain_on_words(list, &mut words);
         assert!(third.answers == ours.answers && words == strip);
-        placed = ours.answers.iter().filter(|answer| answer.is_ok()).count();
+        let granted = ours.answers.iter().filter(|tried| tried.answer.is_ok());
+        placed = granted.count();
+        tries = ours
+            .answers
+            .iter()
+            .map(|tried| u64::from(tried.tries))
+            .sum();
         for quarter in 0..4 {
             engine[quarter] = engine[quarter].min(ours.quarters[quarter]);
             plain[quarter] = plain[quarter].min(theirs.quarters[quarter]);
@@ -153,7 +157,7 @@ fn row(name: &str, list: &List) {
     let sum = |quarters: [f64; 4]| -> f64 { quarters.iter().sum() };
     let (ours, theirs, third) = (sum(engine), sum(plain), sum(on_words));
     println!(
-        "{name:9} R {:3} gap {:2} mask {:2}  N {:4} Q {:5}  placed {placed:3} of {:3}  engine {:9.0} us  plain {:9.0} us  ratio {:.2}  on words {:9.0} us  ratio {:.2}  as bytes {on_bytes:9.0} us, {:.2} of words",
+        "{name:9} R {:3} gap {:2} mask {:2}  N {:4} Q {:5}  placed {placed:3} of {:3}  tries {tries:8}  engine {:9.0} us  plain {:9.0} us  ratio {:.2}  on words {:9.0} us  ratio {:.2}  as bytes {on_bytes:9.0} us, {:.2} of words",
         list.r,
         list.g,
         list.mask,

@@ -4,37 +4,28 @@
 //!
 //! - Line A, bad sheets: the sheet as it is, and some thousand damaged copies of it.
 //! - Line B, the outline: each cell of each piece in each allowed turn.
-//! - Line C, the fit: each position of each piece, before it is laid; then how near
-//!   the pieces lie to each other.
+//! - Line C, the fit: each position of each piece, before it is laid, and the tries
+//!   that the engine reports; then how near the pieces lie to each other.
 //!
 //! A gap of the job is a part of the cells in B, and of the strip in C.
 
 use engine::guard::Guarded;
+use engine::job::{in_millimetres, job_of_input, MOST_LIST, RECORDS, WORK};
 use reference::cells::{covered_plain, stretches};
 use reference::distance::{too_close, Shape};
 use reference::outline::{columns_wide, extent, turned, vertices, Vertex};
 use reference::placing::{best, board_of, least_free, least_free_plain, turned_piece};
+use reference::placing::{next_height, next_height_plain, walk};
 use reference::questions::turns_of_mask;
 use reference::sheet::{ask_head, pieces_of_sheet};
-use reference::text::{gap_and_sheet, sheet_of_text};
-use reference::{Figures, Piece, Position, Refusal};
-use std::io::Read;
+use reference::{Figures, Piece, Position, Refusal, Tried};
 use std::process::exit;
-
-/// As program `lay` lends them.
-const RECORDS: usize = 4_000;
-const WORK: usize = 9_000;
-const MOST_LIST: usize = 26_001;
 
 /// The cells of a board on which every position is tried cell by cell.
 const MOST_BY_CELLS: i64 = 100_000;
 
 fn main() {
-    let mut input = Vec::new();
-    std::io::stdin()
-        .read_to_end(&mut input)
-        .expect("the input can be read");
-    let (gap, sheet) = job_of(&input);
+    let (gap, sheet) = job_of_input();
     line_a(&sheet);
     let answer = ask_head(&sheet).and_then(|figures| Ok((figures, pieces_of_sheet(&sheet)?)));
     let Ok((figures, pieces)) = answer else {
@@ -48,28 +39,11 @@ fn main() {
     line_c(figures, gap, &pieces);
 }
 
-/// The gap and the sheet of a text, or of the input as it is if its sheet begins as
-/// one does.
-fn job_of(input: &[u8]) -> (u16, Vec<u8>) {
-    let (gap, sheet) = gap_and_sheet(input);
-    if sheet.starts_with(b"NJ") {
-        return (gap, sheet.to_vec());
+fn in_words(tries: u32) -> String {
+    match tries {
+        1 => String::from("1 try"),
+        tries => format!("{tries} tries"),
     }
-    match sheet_of_text(input) {
-        Ok(written) => {
-            let (gap, sheet) = gap_and_sheet(&written);
-            (gap, sheet.to_vec())
-        }
-        Err(message) => {
-            eprintln!("{message}");
-            exit(1)
-        }
-    }
-}
-
-/// An eighth is exact in floating point.
-fn in_millimetres(units: u16) -> f64 {
-    f64::from(units) / 8.0
 }
 
 /// Ends the program where the two differ.
@@ -220,35 +194,54 @@ fn line_c(figures: Figures, gap: u16, pieces: &[Piece]) {
             .into_iter()
             .map(|turn| turned_piece(&piece.outline, turn, board.r, board.g))
             .collect();
-        // Cell by cell, or on a large board by striking out all heights at which two runs overlap.
-        let search = if board.w * board.n > MOST_BY_CELLS {
-            least_free
+        // Cell by cell, or on a large board by striking out all heights at which two runs overlap, and
+        // walking from run to run.
+        let (search, next) = if board.w * board.n > MOST_BY_CELLS {
+            (
+                least_free as fn(&_, &_) -> _,
+                next_height as fn(&_, &_, _) -> _,
+            )
         } else {
-            least_free_plain
+            (
+                least_free_plain as fn(&_, &_) -> _,
+                next_height_plain as fn(&_, &_, _) -> _,
+            )
         };
         let by_hand = best(&board, &turns, search).map(|(found, (c, y))| Position {
             turn: found.turn,
             column: c as u16,
             height: y as u16,
         });
-        let answer = engine::place(&mut strip, &piece.outline, piece.mask, &mut [0; WORK]);
+        let walks = turns.iter().flat_map(|piece| walk(&board, piece, next));
+        let tries_by_hand = walks.map(|heights| heights.len() as u32).sum();
+        let Tried { answer, tries } =
+            engine::place(&mut strip, &piece.outline, piece.mask, &mut [0; WORK]);
         let what = format!("the position of piece {ordinal}");
+        let what_tries = format!("the tries of piece {ordinal}");
         match answer {
             Ok(position) => {
                 same(&what, Some(position), by_hand);
                 println!(
-                    "C  piece {ordinal}: turn {}, {} mm along, {} mm up: the best of all free spots",
+                    "C  piece {ordinal}: turn {}, {} mm along, {} mm up: the best of all free spots, after {}",
                     position.turn,
                     f64::from(position.column) * in_millimetres(resolution),
-                    in_millimetres(position.height)
+                    in_millimetres(position.height),
+                    in_words(same(&what_tries, tries, tries_by_hand))
                 );
                 laid.push((ordinal, Shape::new(&piece.outline, position, resolution)));
             }
             Err(Refusal { number: 13, .. }) => {
                 same(&what, None, by_hand);
-                println!("C  piece {ordinal}: no position (13), and none is found by hand");
+                println!(
+                    "C  piece {ordinal}: no position (13) after {}, and none is found by hand",
+                    in_words(same(&what_tries, tries, tries_by_hand))
+                );
             }
-            Err(Refusal { number, .. }) => println!("C  piece {ordinal}: refused {number}"),
+            Err(Refusal { number, .. }) => {
+                let looked = if number == 14 { tries_by_hand } else { 0 };
+                same(&what_tries, tries, looked);
+                println!("C  piece {ordinal}: refused {number}");
+            }
         }
     }
     apart(gap, &laid);

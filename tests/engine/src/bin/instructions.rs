@@ -44,15 +44,16 @@ fn opened(r: u16, g: u16) -> Vec<u16> {
 fn place_all(outlines: &[Vec<u16>], r: u16, mask: u16, g: u16) {
     let (mut strip, mut work) = (opened(r, g), vec![0; WORK]);
     for outline in outlines {
-        assert!(engine::place(&mut strip, outline, mask, &mut work).is_ok());
+        let tried = engine::place(&mut strip, outline, mask, &mut work);
+        assert!(tried.answer.is_ok());
     }
 }
 
 fn ask_and_commit_all(outlines: &[Vec<u16>], r: u16, mask: u16, g: u16) {
     let (mut strip, mut work) = (opened(r, g), vec![0; WORK]);
     for outline in outlines {
-        let answer = engine::ask(&strip, outline, mask, &mut work);
-        let position = answer.expect("room");
+        let tried = engine::ask(&strip, outline, mask, &mut work);
+        let position = tried.answer.expect("room");
         assert!(engine::commit(&mut strip, outline, position, &mut work).is_ok());
     }
 }

@@ -1,6 +1,6 @@
 //! So many calls of open, place, ask, commit, lay, read_path and write_path over C, one
-//! after another, on good and bad input, against the reference program: each answer and
-//! each word of every buffer, which stands between two pages that cannot be read, now at
+//! after another, on good and bad input, against the reference program: each answer, the
+//! tries, and each word of every buffer, which stands between two pages that cannot be read, now at
 //! one, now at the other. One call in three of those on words is made on bytes, which
 //! stand at odd addresses too, as paths do.
 //!
@@ -14,7 +14,7 @@ use reference::generate::{
     PlaceCall, Random, SheetDamage,
 };
 use reference::strip::LEADING;
-use reference::{bytes, Figures, Position, Refusal, Totals};
+use reference::{bytes, Figures, Position, Refusal, Totals, Tried};
 use std::fmt::Debug;
 
 /// What the calls of one kind answered.
@@ -23,6 +23,8 @@ struct Kind {
     calls: u64,
     /// How often each number came; 0 is granted.
     numbers: [u64; NUMBERS],
+    /// The tries reported with each number.
+    tries: [u64; NUMBERS],
 }
 
 impl Kind {
@@ -31,6 +33,7 @@ impl Kind {
             name,
             calls: 0,
             numbers: [0; NUMBERS],
+            tries: [0; NUMBERS],
         }
     }
 
@@ -38,6 +41,25 @@ impl Kind {
         let number = answer.as_ref().err().map_or(0, |refusal| refusal.number);
         self.calls += 1;
         self.numbers[usize::from(number)] += 1;
+    }
+}
+
+/// What place and ask, and what commit answers.
+trait Outcome: PartialEq + Debug {
+    fn count(&self, kind: &mut Kind);
+}
+
+impl Outcome for Tried {
+    fn count(&self, kind: &mut Kind) {
+        kind.count(&self.answer);
+        let number = self.answer.err().map_or(0, |refusal| refusal.number);
+        kind.tries[usize::from(number)] += u64::from(self.tries);
+    }
+}
+
+impl Outcome for Result<(), Refusal> {
+    fn count(&self, kind: &mut Kind) {
+        kind.count(self);
     }
 }
 
@@ -52,7 +74,7 @@ const LAY: usize = 4;
 type Open<T> = [fn(u16, u16, u16, u16, &mut [T]) -> Result<(), Refusal>; 2];
 type Lay<T> = [fn(&[u8], u16, &mut [T], &mut [T], &mut [T]) -> Result<Totals, Refusal>; 2];
 /// Of place, ask and commit. A mask or a position stands after the outline.
-type LayPiece<T, X, A> = [fn(&mut [T], &[T], X, &mut [T]) -> Result<A, Refusal>; 2];
+type LayPiece<T, X, A> = [fn(&mut [T], &[T], X, &mut [T]) -> A; 2];
 
 /// Place, ask or commit.
 struct Laying<X, A> {
@@ -61,12 +83,12 @@ struct Laying<X, A> {
     on_bytes: LayPiece<u8, X, A>,
 }
 
-const PLACING: Laying<u16, Position> = Laying {
+const PLACING: Laying<u16, Tried> = Laying {
     kind: PLACE,
     on_words: [engine::place, reference::place],
     on_bytes: [engine::place_bytes, bytes::place_bytes],
 };
-const ASKING: Laying<u16, Position> = Laying {
+const ASKING: Laying<u16, Tried> = Laying {
     kind: ASK,
     on_words: [
         |strip, outline, mask, work| engine::ask(strip, outline, mask, work),
@@ -77,7 +99,7 @@ const ASKING: Laying<u16, Position> = Laying {
         |strip, outline, mask, work| bytes::ask_bytes(strip, outline, mask, work),
     ],
 };
-const COMMITTING: Laying<Position, ()> = Laying {
+const COMMITTING: Laying<Position, Result<(), Refusal>> = Laying {
     kind: COMMIT,
     on_words: [engine::commit, reference::commit],
     on_bytes: [engine::commit_bytes, bytes::commit_bytes],
@@ -133,7 +155,7 @@ impl<T: Unit> Rooms<T> {
         strip: &mut [T],
         (outline, with): (&[T], X),
         work: &mut [T],
-    ) -> Result<A, Refusal> {
+    ) -> A {
         let length = work.len();
         let case = || format!("{with:?} work of {length} {outline:?}");
         let lent_strip = self.strip.lend_at(end, strip);
@@ -285,14 +307,14 @@ impl Soak {
 
     /// One call on this strip, which is left as the reference program leaves it, with a
     /// work buffer of so many words.
-    fn lay_piece<X: Copy + Debug, A: PartialEq + Debug>(
+    fn lay_piece<X: Copy + Debug, A: Outcome>(
         &mut self,
         call: Laying<X, A>,
         strip: &mut [u16],
         outline: &[u16],
         with: X,
         work: usize,
-    ) -> Result<A, Refusal> {
+    ) -> A {
         let mut work = any_words(&mut self.random, work);
         let (on_bytes, ends) = self.form();
         let answer = if on_bytes {
@@ -313,7 +335,7 @@ impl Soak {
                 .lay_piece(call.on_words, ends, strip, piece, &mut work)
         };
         assert!(work.iter().all(|&word| word == 0), "work: {outline:?}");
-        self.kinds[usize::from(on_bytes)][call.kind].count(&answer);
+        answer.count(&mut self.kinds[usize::from(on_bytes)][call.kind]);
         answer
     }
 
@@ -371,8 +393,8 @@ impl Soak {
                         mask,
                         work,
                     } = &call;
-                    let answer = self.lay_piece(ASKING, strip, outline, *mask, *work);
-                    if let Ok(position) = answer {
+                    let tried = self.lay_piece(ASKING, strip, outline, *mask, *work);
+                    if let Ok(position) = tried.answer {
                         list.found(&call, position);
                     }
                 }
@@ -518,6 +540,13 @@ fn main() {
             .collect();
         println!("{:15} {:8}  {}", kind.name, kind.calls, came.join(", "));
     }
+    for kind in soak.all_kinds().filter(|kind| kind.tries[0] > 0) {
+        let [granted, no_position, no_records] = [0, 13, 14].map(|number| kind.tries[number]);
+        println!(
+            "{:15} tries {granted}, 13: {no_position}, 14: {no_records}",
+            kind.name
+        );
+    }
     println!(
         "fates placed {}, 12: {}, 13: {}, 14: {}",
         soak.fates[0], soak.fates[12], soak.fates[13], soak.fates[14]
@@ -554,6 +583,11 @@ fn main() {
             }
         }
         assert_eq!((ask.numbers[18], commit.numbers[13]), (0, 0));
+        // Nor one that looks without trying, with a grant, with 13 or with 14.
+        for kind in [place, ask] {
+            let looked = [0, 13, 14].map(|number| kind.tries[number] > kind.numbers[number] / 2);
+            assert_eq!(looked, [true; 3], "{}", kind.name);
+        }
     }
     // Nor one that never meets a path that is granted, or one of the refusals.
     let numbers = [&[0, 15, 19, 20], &[0, 7, 8, 15]];

@@ -1,7 +1,7 @@
 -- The answer of the call, packed. Assumes nothing.
 use borrow.Author.Needs.{needs}
-use Rattle.vikelodu.proofs.vikelodu_place.Statement.{statement}
-use Rattle.vikelodu.proofs.vikelodu_place.Tie as tie
+use Rattle.vikelodu.proofs.vikelodu_place_5.Statement.{statement}
+use Rattle.vikelodu.proofs.vikelodu_place_5.Tie as tie
 
 place-requires : tie.Need-place-requires
 place-requires c κs = search needs
@@ -18,5 +18,5 @@ same-length-2 c = search needs
 returns : tie.Need-returns
 returns c = record { answer = _; step = c .before .before .before .before .before .place .ensures; packs = c .pack-placing .ensures }
 
-pub vikelodu-place-spec : {M : Type 1} → statement M
-vikelodu-place-spec = tie.close (tie.spec place-requires pack-placing-requires same-length same-length-2 returns)
+pub vikelodu-place-5-spec : {M : Type 1} → statement M
+vikelodu-place-5-spec = tie.close (tie.spec place-requires pack-placing-requires same-length same-length-2 returns)

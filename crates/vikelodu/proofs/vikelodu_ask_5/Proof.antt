@@ -1,7 +1,7 @@
 -- The answer of the call, packed. Assumes nothing.
 use borrow.Author.Needs.{needs}
-use Rattle.vikelodu.proofs.vikelodu_ask.Statement.{statement}
-use Rattle.vikelodu.proofs.vikelodu_ask.Tie as tie
+use Rattle.vikelodu.proofs.vikelodu_ask_5.Statement.{statement}
+use Rattle.vikelodu.proofs.vikelodu_ask_5.Tie as tie
 
 ask-requires : tie.Need-ask-requires
 ask-requires c κs = search needs
@@ -15,5 +15,5 @@ same-length c = search needs
 returns : tie.Need-returns
 returns c = record { answer = _; step = c .before .before .before .ask .ensures; packs = c .pack-asking .ensures }
 
-pub vikelodu-ask-spec : {M : Type 1} → statement M
-vikelodu-ask-spec = tie.close (tie.spec ask-requires pack-asking-requires same-length returns)
+pub vikelodu-ask-5-spec : {M : Type 1} → statement M
+vikelodu-ask-5-spec = tie.close (tie.spec ask-requires pack-asking-requires same-length returns)

@@ -1,0 +1,4 @@
+pub mod Bound
+pub mod Clashes
+pub mod Between
+pub mod Finds
