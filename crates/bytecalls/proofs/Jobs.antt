@@ -2,7 +2,7 @@
 -- Assumes nothing.
 use mathlib.Core.Path.{_≡_, refl, sym, ap, _∙_}
 use mathlib.Core.Bool.{Bool}
-use mathlib.Core.Option.{none}
+use mathlib.Core.Option.{Option, none, some}
 use mathlib.Core.List.{List, [], map}
 use Prim.Native.Nat.{ℕ, _*_, _≤_}
 use native.Mathlib.Omega.{arith}
@@ -20,15 +20,20 @@ use Rattle.defs.specs.Computing.Words.{limitsNo, gapb, lengthb, recordsOf}
 use Rattle.defs.specs.Computing.Calls.{refusal}
 use Rattle.defs.specs.Computing.Sheets.{q1b, q2b, pieceOf, pieceRecords, sheetNo, sheetPieces}
 use Rattle.defs.specs.Computing.Lay.{placedIn, usedIn, entriesWords, layEntries, layAnswer}
-use Rattle.laws.proofs.Tests.{asked}
+use Rattle.laws.proofs.Tests.{asked, ask-same}
 use Rattle.laws.proofs.Questions.{limits-none}
 use Rattle.laws.proofs.Walks.{chain-few}
 use Rattle.laws.proofs.Entries.{length-entriesFrom, length-entriesWords}
 use Rattle.sheets.proofs.Asking.{some-none}
 use Rattle.sheets.proofs.Answers.{said, not-refused}
-use Rattle.byteput.proofs.Asks.{ask-same, said-same}
 use Rattle.byteput.proofs.Caps.{Capped, uncapped, room-same}
 use Rattle.byteput.proofs.Strips.{short, length-same}
+
+-- what was refused first is refused alike, and what follows is the same
+said-same : {A : Type 0} (refused : Refusal → A) {x y : A} (first : Option Refusal) → (first ≡ none → x ≡ y) →
+    said refused x first ≡ said refused y first
+said-same refused none h = h refl
+said-same refused (some r) h = refl
 
 few-columns : (b : List ℕ) → limitsNo (sheetW b) (sheetR b) (sheetN b) ≡ 0 → sheetN b ≤ mostColumns
 few-columns b e = limits-none (sheetW b) (sheetR b) (sheetN b) .0 e .columns .at-most

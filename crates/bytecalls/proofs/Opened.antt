@@ -10,9 +10,9 @@ use Rattle.defs.specs.declared.Opening.the-variants.{Opened, Refused}
 use Rattle.defs.specs.Computing.Words.{figuresNo}
 use Rattle.defs.specs.Computing.Calls.{openAnswer, OpenLeaves, OpenStep}
 use Rattle.defs.specs.Computing.Bytes.{wordsIn, wordBytes, OpenBytesStep}
+use Rattle.laws.proofs.Tests.{ask-same}
 use Rattle.laws.proofs.Questions.{figures-none}
 use Rattle.bytewords.proofs.Laws.{words-length, put-all, bytes-back}
-use Rattle.byteput.proofs.Asks.{ask-same}
 use Rattle.byteput.proofs.Caps.{Capped, uncapped, words-capped}
 use Rattle.byteput.proofs.Strips.{left-short, length-same}
 

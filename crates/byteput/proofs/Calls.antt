@@ -4,7 +4,7 @@ use mathlib.Core.Path.{_≡_, refl, sym, ap, ap₂, subst, _∙_}
 use mathlib.Core.Logic.{⊎-elim}
 use mathlib.Core.Bool.{Bool, true, false}
 use mathlib.Core.List.{List, _++_}
-use Prim.Native.Nat.{ℕ, _*_, _/_, _^_, _≤_, _<_, min}
+use Prim.Native.Nat.{ℕ, _*_, _/_, _^_, _≤_, _<_}
 use native.Mathlib.Omega.{arith}
 use lib.Dec.{leb}
 use lib.ListN.{length, getD, take, drop}
@@ -18,7 +18,8 @@ use Rattle.defs.specs.Meaning.Limits.{mostTurn}
 use Rattle.defs.specs.Meaning.Strip.{resolutionOf}
 use Rattle.defs.specs.Computing.Words.{wellFormedb}
 use Rattle.defs.specs.Computing.Calls.{refusal, cleared, q7b, q9b, outlineNo, shown, placeOn, placeAnswer, triesOn, placeTries, askAnswer, commitOn, commitAnswer, EnteredLeaves, PlaceLeaves, CommitLeaves}
-use Rattle.defs.specs.Computing.Bytes.{wordsIn, mostWork, workIn, wordBytes, bytesLeft, PlaceBytesStep, AskBytesStep, CommitBytesStep}
+use Rattle.defs.specs.Computing.Bytes.{wordsIn, wordBytes, bytesLeft, PlaceBytesStep, AskBytesStep, CommitBytesStep}
+use Rattle.laws.proofs.Tests.{refuted}
 use Rattle.laws.proofs.Questions.{question-7}
 use Rattle.geom.proofs.Strip.{lt-or-le}
 use Rattle.bytewords.proofs.Laws.{words-length, put-all, bytes-back}
@@ -29,7 +30,6 @@ use Rattle.wanted.proofs.Answered.{ill-refused, ill-untried, not-placed}
 use Rattle.commit.specs.Strip.{asCommit}
 use Rattle.commit.proofs.Strip.{commit-answer, commit-leaves}
 use Rattle.byteput.specs.Steps.{PutWords, PutCopy, PutBack}
-use Rattle.byteput.proofs.Asks.{refuted}
 use Rattle.byteput.proofs.Caps.{Cut, uncut, work-long}
 use Rattle.byteput.proofs.Strips.{long-ill, left-short}
 use Rattle.byteput.proofs.Halves.{half-serves, half-cleared}

@@ -1,4 +1,3 @@
-pub mod Asks
 pub mod Caps
 pub mod Parts
 pub mod Strips

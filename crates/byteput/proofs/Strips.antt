@@ -11,9 +11,9 @@ use Rattle.defs.specs.Meaning.Limits.{mostColumns}
 use Rattle.defs.specs.Computing.Cells.{Rows}
 use Rattle.defs.specs.Computing.Words.{lengthb, wellFormedb}
 use Rattle.defs.specs.Computing.Calls.{Left}
+use Rattle.laws.proofs.Tests.{refuted}
 use Rattle.laws.proofs.Questions.{length-decides}
 use Rattle.laws.proofs.Formed.{lists-decide}
-use Rattle.byteput.proofs.Asks.{refuted}
 use Rattle.byteput.proofs.Caps.{Capped}
 
 -- question 4, which is asked after 17: 5 + 4,096 + 4 × 16,000

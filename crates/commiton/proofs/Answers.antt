@@ -1,6 +1,6 @@
 -- The answer of a commit on a table, question by question.
 -- Assumes nothing.
-use mathlib.Core.Path.{_≡_, refl, sym, ap, _∙_}
+use mathlib.Core.Path.{_≡_, refl, ap, _∙_}
 use mathlib.Core.Bool.{Bool, true, false}
 use mathlib.Core.List.{List}
 use Prim.Native.Nat.{ℕ, _+_, _*_, _/_, _≤_, _<_}
@@ -19,7 +19,7 @@ use Rattle.defs.specs.Computing.Test.{ask}
 use Rattle.defs.specs.Computing.Cells.{Rows, pieceRuns, countRuns}
 use Rattle.defs.specs.Computing.Search.{freeb, dropN}
 use Rattle.defs.specs.Computing.Calls.{refusal, q14b, q18b, commitOn}
-use Rattle.laws.proofs.Tests.{Decides, leb-decides, and-decides, pos-not-zero}
+use Rattle.laws.proofs.Tests.{Decides, leb-decides, and-decides, same-test, pos-not-zero}
 use Rattle.geom.proofs.OneTurn.{room-one}
 use Rattle.geom.proofs.Checks.{keeps-decides}
 use Rattle.outline.specs.Vertex.{Lent, BoundsOf}
@@ -91,12 +91,6 @@ module _ (W R N g Q : ℕ) (held : List (List Rows)) (o : List ℕ) (p : Positio
               le-leb (3 * count) words room,
               e,
             ) refl
-
--- tests that say the same are the same
-same-test : (a b : Bool) → (a ≡ true → b ≡ true) → (b ≡ true → a ≡ true) → a ≡ b
-same-test true b f g = sym (f refl)
-same-test false true f g = g refl
-same-test false false f g = refl
 
 -- 18, as it was tried
 pub fits-is : {f l h r : List ℕ} {W N n k wide tall : ℕ} {a : Bool} (R g : ℕ) (o : List ℕ) (p : Position) → g ≤ 400 → Laid f l h W N n →

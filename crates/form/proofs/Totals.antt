@@ -1,6 +1,6 @@
 -- The walk over all chains: where one is broken, or the count is not the number of records, the strip is not well formed.
 -- Assumes nothing.
-use mathlib.Core.Path.{_≡_, refl, sym, _∙_}
+use mathlib.Core.Path.{_≡_, sym, _∙_}
 use mathlib.Core.Logic.{_≢_, Iff·symm, Iff·trans}
 use mathlib.Core.Bool.{Bool, true, false, false≢true}
 use mathlib.Core.List.{List}
@@ -13,7 +13,7 @@ use lib.ListN.{length}
 use Rattle.defs.specs.Meaning.Strip.{widthOf, resolutionOf, columnsOf, gapOf}
 use Rattle.defs.specs.Meaning.Question.{Question4}
 use Rattle.defs.specs.Computing.Words.{figuresNo, lengthb, recordsOf, wellFormedb}
-use Rattle.laws.proofs.Tests.{Decides}
+use Rattle.laws.proofs.Tests.{Decides, same-test}
 use Rattle.laws.proofs.Questions.{figures-none, question-4, length-decides}
 use Rattle.laws.proofs.Complete.{question-5}
 use Rattle.striprecords.specs.declared.Shape.{Shape}
@@ -27,14 +27,11 @@ formed-decides : (s : List ℕ) → Decides (wellFormedb s) (Formed s)
 formed-decides s = Iff·trans (question-5 s) (Iff·symm (form-is s))
 
 -- two tests of the same
-same-test : {a b : Bool} {P : Type 0} → Decides a P → Decides b P → a ≡ b
-same-test {a = true} {b = true} p q = refl
-same-test {a = true} {b = false} p q = sym (q .1 (p .0 refl))
-same-test {a = false} {b = true} p q = p .1 (q .0 refl)
-same-test {a = false} {b = false} p q = refl
+same-decided : {a b : Bool} {P : Type 0} → Decides a P → Decides b P → a ≡ b
+same-decided {a} {b} p q = same-test a b (λ e. q .1 (p .0 e)) (λ e. p .1 (q .0 e))
 
 not-formed : {s : List ℕ} → (Formed s → ⊥) → wellFormedb s ≡ false
-not-formed {s} f = same-test (formed-decides s) (λ e. absurd (false≢true e), λ g. absurd (f g))
+not-formed {s} f = same-decided (formed-decides s) (λ e. absurd (false≢true e), λ g. absurd (f g))
 
 -- the tests of length and limits
 module _ (s : List ℕ) where
@@ -101,7 +98,7 @@ module _ {s : List ℕ} {g : Shape} {c total : ℕ} (o : On s g c total) where
   end-fits {k} l d = on-fits k (free-next l d)
 
   pub ended : {k : ℕ} → g .columns ≤ c → ChainOf s (g .records) (g .columns) k → eqb (total + k) (g .records) ≡ wellFormedb s
-  ended {k} l d = same-test (sound, complete) (formed-decides s)
+  ended {k} l d = same-decided (sound, complete) (formed-decides s)
     where
       last : ChainOf s (g .records) c k
       last = free-next l d

@@ -71,6 +71,15 @@ pub implies-decides : {a b : Bool} {P Q : Type 0} → Decides a P → Decides b 
 implies-decides {a = true} p q = (λ e h. q .0 e, λ f. q .1 (f (p .0 refl)))
 implies-decides {a = false} p q = (λ e h. absurd (false≢true (p .1 h)), λ f. refl)
 
+-- a test that cannot pass, and two tests that pass together
+pub refuted : (t : Bool) → ¬ (t ≡ true) → t ≡ false
+refuted true n = absurd (n refl)
+refuted false n = refl
+
+pub same-test : (a b : Bool) → (a ≡ true → b ≡ true) → (b ≡ true → a ≡ true) → a ≡ b
+same-test true b f g = sym (f refl)
+same-test false b f g = sym (refuted b (λ e. false≢true (g e)))
+
 -- the same test decides what is equivalent
 pub decides-by : {a : Bool} {P Q : Type 0} → (P → Q) → (Q → P) → Decides a P → Decides a Q
 decides-by f g p = (λ e. f (p .0 e), λ h. p .1 (g h))
@@ -162,3 +171,9 @@ said-yes {r} e y = sym e ∙ not-false r y
 pub asked : {A : Type 0} {no ok : A} (t : Bool) (rest : Unit {0} → A) → ask t no rest ≡ ok → ¬ (no ≡ ok) → (t ≡ true) × (rest tt ≡ ok)
 asked true rest e n = (refl, e)
 asked false rest e n = absurd (n e)
+
+-- the first question gets the same answer, and what follows is the same where that is yes
+pub ask-same : {A : Type 0} (t : Bool) (refused : A) (f g : Unit {0} → A) → (t ≡ true → f tt ≡ g tt) →
+    ask t refused f ≡ ask t refused g
+ask-same true refused f g h = h refl
+ask-same false refused f g h = refl

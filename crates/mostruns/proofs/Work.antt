@@ -2,9 +2,8 @@
 -- and commit answer the same, and so does lay of every sheet. Assumes nothing.
 use mathlib.Core.Path.{_≡_, refl, sym, ap, _∙_}
 use mathlib.Core.Logic.{⊎-elim}
-use mathlib.Core.Bool.{Bool, true, false}
 use mathlib.Core.List.{List, [], _∷_}
-use Prim.Native.Nat.{ℕ, _+_, _*_, _^_, _≤_, _<_, min}
+use Prim.Native.Nat.{ℕ, _+_, _*_, _^_, _≤_, min}
 use native.Mathlib.Omega.{arith}
 use lib.Dec.{leb, eqb}
 use borrow.Author.Tests.{eqb-true, le-leb}
@@ -12,22 +11,17 @@ use Rattle.defs.specs.declared.Position.{Position}
 use Rattle.defs.specs.Meaning.Limits.{mostTurn}
 use Rattle.defs.specs.Meaning.Strip.{gapOf}
 use Rattle.defs.specs.Meaning.Sheet.{Piece}
-use Rattle.defs.specs.Computing.Test.{ask}
 use Rattle.defs.specs.Computing.Cells.{Rows, mostRuns}
 use Rattle.defs.specs.Computing.Words.{wellFormedb}
 use Rattle.defs.specs.Computing.Calls.{q9b, q12b, outlineNo, placeOn, placeAnswer, commitOn, commitAnswer, triesOn, placeTries}
 use Rattle.defs.specs.Computing.Lay.{entriesFrom, layEntries}
 use Rattle.defs.specs.Computing.Bytes.{mostWork}
+use Rattle.laws.proofs.Tests.{ask-same}
 use Rattle.laws.proofs.Questions.{question-7, question-8}
 use Rattle.geom.proofs.Strip.{lt-or-le}
 use Rattle.geom.proofs.Checks.{none-no-is, question-10, passes-resolution}
 use Rattle.turns.proofs.Alone.{mask-of-turn}
 use Rattle.mostruns.proofs.Most.{most-runs-bound}
-
--- two calls whose first question gets the same answer, and whose answers are the same where that is yes
-ask-same : {A : Type 0} (t : Bool) (refused : A) (f g : Unit {0} → A) → (t ≡ true → f tt ≡ g tt) → ask t refused f ≡ ask t refused g
-ask-same true refused f g h = h refl
-ask-same false refused f g h = refl
 
 -- three words for each run of an outline that passes 7 to 11
 needed : (o : List ℕ) (mask R : ℕ) → outlineNo o (q9b mask) mask R ≡ 0 → 3 * mostRuns o mask R 0 4 ≤ mostWork

@@ -8,10 +8,9 @@ use lib.Dec.{eqb}
 use lib.ListN.{length, getD, drop}
 use lib.Seq.{getD-drop, drop-drop}
 use borrow.Author.Tests.{eqb-true, eq-eqb, ne-eqb}
-use Rattle.laws.proofs.Tests.{and-left, and-right}
+use Rattle.laws.proofs.Tests.{and-left, and-right, same-test}
 use Rattle.pathdefs.specs.Computing.Paths.{linesb, verticesIn, q19b}
 use Rattle.pathlaws.proofs.Shapes.{nineteen, long, least, most, tags}
-use Rattle.millimetres.proofs.Values.{same-test}
 use Rattle.pathsteps.specs.Found.{kindAt, VertexStep}
 use Rattle.pathsteps.proofs.Cases.{kind-says, close-kind, move-kind, line-kind}
 use Rattle.readpath.specs.Passed.{Long, Shaped, Unshaped}

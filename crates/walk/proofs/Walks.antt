@@ -2,7 +2,7 @@
 -- where the first clash sends the piece, so the tries counted are the heights of the definition's walk.
 -- Assumes nothing.
 use mathlib.Core.Path.{_≡_, refl, sym, ap, subst, _∙_}
-use mathlib.Core.Bool.{Bool, true, false, cond}
+use mathlib.Core.Bool.{Bool, false, cond}
 use mathlib.Core.List.{List, []}
 use mathlib.Core.Option.{none, some}
 use Prim.Native.Nat.{ℕ, zero, suc, _+_, _-_, _≤_, _<_, max}
@@ -18,7 +18,7 @@ use Rattle.defs.specs.Computing.Cells.{Rows, pieceRuns}
 use Rattle.defs.specs.Computing.Search.{meets, freeb, dropN}
 use Rattle.defs.specs.Computing.Walk.{lowestMet, goesOn, nextHeight, heightsFrom, heightsIn, columnsFrom, turnWalk, triesIn}
 use Rattle.geom.proofs.RunWords.{RunAt}
-use Rattle.laws.proofs.Tests.{and-left, and-right, and-both}
+use Rattle.laws.proofs.Tests.{and-left, and-right, and-both, refuted}
 use Rattle.tables.specs.Flat.{rowAt, rowsFrom, rowsIn, tableOf, Occupied, Laid}
 use Rattle.tables.specs.Piece.{runColumn, runLow, runHigh, Stands}
 use Rattle.tables.proofs.Flats.{column-flat}
@@ -28,11 +28,6 @@ use Rattle.tries.specs.Tries.{Lands}
 use Rattle.walk.specs.Free.{FreeTo}
 use Rattle.walk.specs.Steps.{Steps, past, free, jump, TurnSteps, off, found, next}
 use Rattle.walk.proofs.Searches.{frame-of, free-is}
-
--- a test that cannot pass
-fails : (b : Bool) → ¬ (b ≡ true) → b ≡ false
-fails true n = absurd (n refl)
-fails false n = refl
 
 module _ {f l h r : List ℕ} {W N n p : ℕ} (o : List ℕ) (t R g : ℕ) (small : g ≤ 400) (laid : Laid f l h W N n) (stands : Stands (pieceRuns o t R g) r p) where
   abbrev wide : ℕ
@@ -56,7 +51,7 @@ module _ {f l h r : List ℕ} {W N n p : ℕ} (o : List ℕ) (t R g : ℕ) (smal
       ((j : ℕ) → runLow r m ≤ j → j < runHigh r m → ¬ Occupied f l h (c + runColumn r m) (y + j)) →
       getD f (c + i) 0 ≤ q → q < getD f (c + i + 1) 0 → meets y rows (rowAt l h q) ≡ false
   unfolding meets
-  apart {m} {i} {rows} c y q fits few run clear from to = fails (meets y rows (rowAt l h q)) λ e.
+  apart {m} {i} {rows} c y q fits few run clear from to = refuted (meets y rows (rowAt l h q)) λ e.
       let over : rows .low + y < getD h q 0 = ltb-true _ _ (and-left (ltb (rows .low + y) (getD h q 0)) _ e) in
       let under : getD l q 0 < rows .high + y = ltb-true _ _ (and-right (ltb (rows .low + y) (getD h q 0)) _ e) in
       let full = laid .runs (c + i) fits .full q from to in
@@ -85,7 +80,7 @@ module _ {f l h r : List ℕ} {W N n p : ℕ} (o : List ℕ) (t R g : ℕ) (smal
       met-first y rows (rowAt l h) (getD f (c + i) 0) _ (m .which) low (omega (arith, laid .flat .rise (c + i) fits))
       (λ q u v.
       let below = m .lowest .below q v (subst (λ (a : ℕ). getD f (c + a) 0 ≤ q) (sym (run .column)) u) in
-      fails (meets y rows (rowAt l h q)) λ e.
+      refuted (meets y rows (rowAt l h q)) λ e.
       let over : rows .low + y < getD h q 0 = ltb-true _ _ (and-left (ltb (rows .low + y) (getD h q 0)) _ e) in
       omega (arith, run .low))
       (and-both (lt-ltb (rows .low + y) (getD h (m .which) 0) (omega (arith, m .lowest .over, run .low)))
