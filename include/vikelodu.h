@@ -13,7 +13,7 @@
  * An answer is one number of 64 bits, made in the same way for every call:
  *
  *   bits 0 to 15   the number: 0 where the call is granted, else that of the question
- *   the others     granted, the call's values: 16 bits each, or one of 32 bits in the high half;
+ *   the others     granted, the call's values: 16 bits each, the last one 32 bits in the high half where it needs them;
  *                  refused, the ordinal in bits 16 to 31; bits 32 to 47 are kept for a second number beside it, and 0 so far
  *
  * The functions at the end of this header take an answer apart. What a call tells in every case, granted or refused, stands beside the
