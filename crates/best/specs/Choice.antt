@@ -11,6 +11,7 @@ use Rattle.defs.specs.Meaning.Placing.{columnsFor, endColumn, top}
 use Rattle.defs.specs.Computing.Cells.{Rows, pieceRuns, countRuns, mostRuns}
 use Rattle.defs.specs.Computing.Search.{freeb, dropN, firstFree, bestBelow}
 use Rattle.defs.specs.Computing.Walk.{turnWalk, triesIn, triesBelow}
+use Rattle.outline.specs.declared.Bounds.{Bounds}
 use Rattle.outline.specs.Vertex.{Lent, BoundsOf}
 use Rattle.tables.specs.Flat.{Laid}
 use Rattle.tables.specs.Piece.{Stands}
@@ -56,9 +57,9 @@ FindsTo R N o x limit (Chosen b) = Finds R o x (Chosen b)
 FindsTo R N o x limit Nowhere = (q : Position) → x ≡ some q → (limit < endColumn R o q) × (endColumn R o q ≤ N)
 
 -- an outline that passes 7 and 8, its bounds, and a table laid flat
-pub record Ready (f l h o : List ℕ) (W R N g left right foot head : ℕ) : Type 0 where
+pub record Ready (f l h o : List ℕ) (W R N g : ℕ) (b : Bounds) : Type 0 where
   pub lent : Lent o
-  pub bounds : BoundsOf o left right foot head
+  pub bounds : BoundsOf o b
   pub least : 1 ≤ R
   pub most : R ≤ 400
   pub gap : g ≤ 400

@@ -52,14 +52,14 @@ fn try_turn(
     limit: usize,
     work: &mut [u16],
 ) -> Tried
-    requires { ⌜ Ready (now first) (now lows) (now highs) (now o) (g .width) (g .resolution) (g .columns) gap (b .left) (b .right) (b .foot) (b .head) ⌝
+    requires { ⌜ Ready (now first) (now lows) (now highs) (now o) (g .width) (g .resolution) (g .columns) gap b ⌝
         ∗ ⌜ t ≤ 3 ⌝ ∗ ⌜ KeepsOrder (turned (now o) t) ⌝ ∗ ⌜ (limit ≤ g .columns)
         × NoneInTurn (g .width) (g .resolution) (g .columns) gap (tableOf (now first) (now lows) (now highs) (g .columns)) (now o) t lower ⌝ }
     ensures { λ s. ⌜ OneTurn (g .width) (g .resolution) (g .columns) gap (tableOf (now (first .entry)) (now (lows .entry)) (now (highs .entry)) (g .columns)) (now (o .entry)) t (length (now (work .entry))) limit way s ⌝
         ∗ ⌜ Kept (now (o .entry)) (g .resolution) gap (now (work .exit)) (s .stands .turn) (s .stands .runs) ⌝ }
 {
     let e = outline::extent_of(o, b, t);
-    let k = cells::put_runs(o, b, t, g.resolution, gap, e.w, work);
+    let k = cells::put_turn(o, b, t, g.resolution, gap, e.w, work);
     if work.len() / 3 < k {
         return Tried {
             most: k,
@@ -110,7 +110,7 @@ fn allowed_turn(
     work: &mut [u16],
     s: Tried,
 ) -> Tried
-    requires { ⌜ Ready (now first) (now lows) (now highs) (now o) (g .width) (g .resolution) (g .columns) gap (b .left) (b .right) (b .foot) (b .head) ⌝
+    requires { ⌜ Ready (now first) (now lows) (now highs) (now o) (g .width) (g .resolution) (g .columns) gap b ⌝
         ∗ ⌜ t ≤ 3 ⌝
         ∗ ⌜ Question10 (now o) mask
         × NoneBefore (g .width) (g .resolution) (g .columns) gap (tableOf (now first) (now lows) (now highs) (g .columns)) (now o) mask lower ⌝
@@ -142,7 +142,7 @@ pub fn best_turn(
     lower: usize,
     work: &mut [u16],
 ) -> Tried
-    requires { ⌜ Ready (now first) (now lows) (now highs) (now o) (g .width) (g .resolution) (g .columns) gap (b .left) (b .right) (b .foot) (b .head) ⌝
+    requires { ⌜ Ready (now first) (now lows) (now highs) (now o) (g .width) (g .resolution) (g .columns) gap b ⌝
         ∗ ⌜ Question10 (now o) mask
         × NoneBefore (g .width) (g .resolution) (g .columns) gap (tableOf (now first) (now lows) (now highs) (g .columns)) (now o) mask lower ⌝ }
     ensures { λ r. ⌜ TurnsTo (g .width) (g .resolution) (g .columns) gap (tableOf (now (first .entry)) (now (lows .entry)) (now (highs .entry)) (g .columns)) (now (o .entry)) mask 4 (length (now (work .entry))) way r ⌝

@@ -1,7 +1,7 @@
 -- The runs of all columns, counted and stored column by column: what is left to count and to store gives the whole, and at the end
 -- nothing is left.
 -- Assumes nothing.
-use mathlib.Core.Path.{_≡_, refl, ap, sym, _∙_}
+use mathlib.Core.Path.{_≡_, refl, ap, sym, subst, _∙_}
 use mathlib.Core.List.{List}
 use Prim.Native.Nat.{ℕ, suc, _+_, _-_, _*_, _≤_, _<_}
 use native.Mathlib.Omega.{arith}
@@ -18,7 +18,7 @@ use Rattle.defs.specs.Computing.Test.{listFrom}
 use Rattle.defs.specs.Computing.Cells.{Rows, pieceRuns, countRuns}
 use Rattle.defs.specs.Computing.Calls.{rowsWords, runsWords}
 use Rattle.geom.proofs.Extent.{rounded-up, rounded-end}
-use Rattle.outline.specs.Vertex.{Lent, BoundsOf}
+use Rattle.outline.specs.Vertex.{Lent}
 use Rattle.entries.specs.Edges.{NextAt}
 use Rattle.section.specs.Slabs.{Kept}
 use Rattle.column.specs.Rows.{Working}
@@ -125,12 +125,15 @@ at-work e0 e1 ed f0 f1 el eh kept next =
     }
 
 -- one column more, as `gap_column` leaves it
-pub column-put : {o : List ℕ} {x₀ x₁ y₀ y₁ : ℕ} → Lent o → BoundsOf o x₀ x₁ y₀ y₁ → {t R g w : ℕ} → t ≤ 3 →
+pub column-put : {o : List ℕ} → Lent o → {t R g w : ℕ} → t ≤ 3 →
     KeepsOrder (turned o t) → w ≡ extentX o t → 1 ≤ R → {out₀ out : List ℕ} {i from k : ℕ} →
     Putting (columnRuns o t R g) (w + g) R out₀ out i from k → from < w + g →
     {h0 h1 d l h : List ℕ} {n a b m c : ℕ} → GapColumnOf (turned o t) from R g w h0 h1 d l h n a b m c →
     {out' : List ℕ} {k' : ℕ} → PutColumn i (pairs l h n) out out' k k' →
     Putting (columnRuns o t R g) (w + g) R out₀ out' (i + 1) (from + R) k'
-column-put lent bounds {R = R} {g = g} turn keeps wide r {i = i} p s {l = l} {h = h} {n = n} c q =
+column-put lent {R = R} {g = g} turn keeps wide r {i = i} p s {l = l} {h = h} {n = n} c q =
     putting-next p r s (omega (arith, c .few, length-listFrom (pairAt l h) 0 n))
-    (column-runs lent bounds R g i turn keeps wide r (p .place) c) q
+    (column-runs lent R g i turn keeps wide r (p .place) c) q
+
+pub put-at : {o : List ℕ} {s t R g : ℕ} {out out' : List ℕ} {k : ℕ} → s ≡ t → PutRuns o s R g out out' k → PutRuns o t R g out out' k
+put-at {o} {R = R} {g = g} {out = out} {out' = out'} {k = k} e p = subst (λ (t : ℕ). PutRuns o t R g out out' k) e p

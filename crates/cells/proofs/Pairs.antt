@@ -3,27 +3,26 @@
 -- Assumes nothing.
 use mathlib.Core.Path.{_≡_, ap, sym, subst, _∙_}
 use mathlib.Core.Bool.{true}
-use mathlib.Core.Logic.{_↔_, Iff·trans, ⊎-elim}
+use mathlib.Core.Logic.{_↔_, Iff·trans}
 use mathlib.Core.List.{List}
 use Prim.Native.Nat.{ℕ, zero, suc, _+_, _*_, _-_, _≤_, _<_, min}
 use native.Mathlib.Omega.{arith}
 use native.Mathlib.Nat.{zero-add}
 use lib.ListN.{getD}
 use Rattle.laws.proofs.Lists.{listFrom-at, length-listFrom}
-use Rattle.defs.specs.Meaning.Outline.{vx, sides, KeepsOrder}
-use Rattle.defs.specs.Meaning.Turn.{turned, greatest, extentX, extentY}
+use Rattle.defs.specs.Meaning.Outline.{sides, KeepsOrder}
+use Rattle.defs.specs.Meaning.Turn.{turned, extentX, extentY}
 use Rattle.defs.specs.Computing.Test.{listFrom}
 use Rattle.defs.specs.Computing.Cells.{Rows, coveredb, inRows}
 use Rattle.geom.proofs.Stretches.{Among, among-of, of-among}
 use Rattle.geom.proofs.RunLists.{ApartFrom, place, among-at, place-holds, stretches-only}
 use Rattle.geom.proofs.RunLists.{Apart as ApartList}
-use Rattle.geom.proofs.Strip.{lt-or-le}
 use Rattle.geom.proofs.Extent.{sides-turned}
 use Rattle.geom.proofs.Windows.{gap-rows}
 use Rattle.geom.proofs.Computed.{gap-covered}
 use Rattle.geom.proofs.PieceCells.{within, gap-within}
 use Rattle.join.specs.Runs.{Apart, Holds}
-use Rattle.outline.specs.Vertex.{Lent, BoundsOf}
+use Rattle.outline.specs.Vertex.{Lent}
 use Rattle.geom.specs.Units.{InUnits, Raised}
 use Rattle.gapcolumn.specs.Gap.{GapColumnOf}
 use Rattle.cells.specs.Columns.{pairAt, pairs, columnRuns}
@@ -71,9 +70,7 @@ module _ {l h : List ℕ} {n : ℕ} (a : Apart l h n) where
 -- Column i, from `from` on. No unit column past the extent w covers a row, so cutting the last columns at w takes none away.
 module _
     {o : List ℕ}
-    {x₀ x₁ y₀ y₁ : ℕ}
     (lent : Lent o)
-    (bounds : BoundsOf o x₀ x₁ y₀ y₁)
     {t : ℕ}
     (R g i : ℕ)
     {w from : ℕ}

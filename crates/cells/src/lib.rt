@@ -7,11 +7,12 @@ ghost use lib.Seq.{sets};
 ghost use Rattle.defs.specs.Meaning.Outline.{KeepsOrder};
 ghost use Rattle.defs.specs.Meaning.Turn.{turned, extentX};
 ghost use Rattle.defs.specs.Computing.Calls.{rowsWords};
-ghost use Rattle.outline.specs.Vertex.{Lent, BoundsOf};
+ghost use Rattle.outline.specs.Vertex.{Lent, BoundsOf, FrameOf};
 ghost use Rattle.cells.specs.Put.{PutRuns, Resolution};
 ghost use Rattle.cells.specs.Columns.{pairs, ColumnFits, PutColumn};
 use column::Filled;
 use outline::Bounds;
+use outline::Frame;
 
 // No runs yet, and no slab looked at.
 fn nothing() -> Filled
@@ -53,10 +54,10 @@ fn put_if_fits(lows: &[u16], highs: &[u16], n: usize, i: u16, out: &mut [u16], k
 }
 
 // The runs of all columns with the gap, three words a run as far as they fit, and how many they are.
-pub fn put_runs(o: &[u16], b: Bounds, t: u16, r: u16, gap: u16, w: u16, out: &mut [u16]) -> usize
-    requires { ⌜ Lent (now o) ⌝ ∗ ⌜ BoundsOf (now o) (b .left) (b .right) (b .foot) (b .head) ⌝
-        ∗ ⌜ (t ≤ 3) × (w ≡ extentX (now o) t) ⌝ ∗ ⌜ KeepsOrder (turned (now o) t) ⌝ ∗ ⌜ Resolution r × (gap ≤ 400) ⌝ }
-    ensures { λ k. ⌜ PutRuns (now (o .entry)) t r gap (now (out .entry)) (now (out .exit)) k ⌝ }
+pub fn put_runs(o: &[u16], f: Frame, r: u16, gap: u16, w: u16, out: &mut [u16]) -> usize
+    requires { ⌜ Lent (now o) ⌝ ∗ ⌜ FrameOf (now o) f ⌝
+        ∗ ⌜ w ≡ extentX (now o) (f .turn) ⌝ ∗ ⌜ KeepsOrder (turned (now o) (f .turn)) ⌝ ∗ ⌜ Resolution r × (gap ≤ 400) ⌝ }
+    ensures { λ k. ⌜ PutRuns (now (o .entry)) (f .turn) r gap (now (out .entry)) (now (out .exit)) k ⌝ }
 {
     let mut h0 = [0u64; numbers::MOST_VERTICES];
     let mut h1 = [0u64; numbers::MOST_VERTICES];
@@ -66,20 +67,19 @@ pub fn put_runs(o: &[u16], b: Bounds, t: u16, r: u16, gap: u16, w: u16, out: &mu
     let mut lows = [0u16; numbers::RUN_ROOM];
     let mut highs = [0u16; numbers::RUN_ROOM];
     let reach = w + gap;
-    let mut f = nothing();
+    let mut c = nothing();
     let mut k = 0;
     let mut i = 0;
     let mut start = 0;
     while start < reach {
-        f = gapcolumn::gap_column(
+        c = gapcolumn::gap_column(
             o,
-            b,
-            t,
+            f,
             start,
             r,
             gap,
             w,
-            f.slab,
+            c.slab,
             &mut h0,
             &mut h1,
             &mut d,
@@ -88,9 +88,18 @@ pub fn put_runs(o: &[u16], b: Bounds, t: u16, r: u16, gap: u16, w: u16, out: &mu
             &mut lows,
             &mut highs,
         );
-        k = put_if_fits(&lows, &highs, f.runs, i, out, k);
+        k = put_if_fits(&lows, &highs, c.runs, i, out, k);
         start += r;
         i += 1;
     }
     k
+}
+
+// The same in turn t, by the outline's bounds.
+pub fn put_turn(o: &[u16], b: Bounds, t: u16, r: u16, gap: u16, w: u16, out: &mut [u16]) -> usize
+    requires { ⌜ Lent (now o) ⌝ ∗ ⌜ BoundsOf (now o) b ⌝
+        ∗ ⌜ (t ≤ 3) × (w ≡ extentX (now o) t) ⌝ ∗ ⌜ KeepsOrder (turned (now o) t) ⌝ ∗ ⌜ Resolution r × (gap ≤ 400) ⌝ }
+    ensures { λ k. ⌜ PutRuns (now (o .entry)) t r gap (now (out .entry)) (now (out .exit)) k ⌝ }
+{
+    put_runs(o, outline::frame_of(o, b, t), r, gap, w, out)
 }

@@ -1,3 +1,4 @@
 pub mod Levels
 pub mod Pairs
 pub mod Turned
+pub mod Bounded

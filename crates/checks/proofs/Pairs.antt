@@ -1,22 +1,19 @@
--- Question 8 word by word; question 10 pair by pair.
+-- Question 10 pair by pair.
 -- Assumes nothing.
 use mathlib.Core.Path.{_≡_, refl, ap, ap₂, sym, subst, _∙_}
 use mathlib.Core.Bool.{Bool, true, false, _&&_, _||_, true≢false}
 use mathlib.Core.Logic.{_⊎_, ⊎-elim}
-use mathlib.Core.List.{List, [], _∷_}
-use Prim.Native.Nat.{ℕ, zero, suc, _+_, _*_, _-_, _≤_, _<_, min, max}
+use mathlib.Core.List.{List}
+use Prim.Native.Nat.{ℕ, _+_, _*_, _-_, _≤_, _<_, min, max}
 use native.Mathlib.Numerals.{add-one}
 use native.Mathlib.Omega.{arith}
 use native.Mathlib.Nat.{mul-le-mul, mul-le-mul-right, mul-one}
-use lib.Dec.{leb}
-use lib.ListN.{length, getD}
-use borrow.Author.Tests.{lt-ltb, le-ltb, le-leb, lt-leb, ltb-true}
+use borrow.Author.Tests.{lt-ltb, le-ltb, ltb-true}
 use Rattle.laws.proofs.Tests.{and-right, anyTo-at, anyTo-of}
 use Rattle.geom.proofs.Checks.{keeps-decides}
 use Rattle.defs.specs.Meaning.Outline.{Edge, sides, edgeAt, spans, width, height, lower, changeOrder, Ordered, KeepsOrder}
 use Rattle.defs.specs.Meaning.Turn.{turned, extentX}
-use Rattle.defs.specs.Computing.Test.{anyTo, all}
-use Rattle.defs.specs.Computing.Calls.{q8b}
+use Rattle.defs.specs.Computing.Test.{anyTo}
 use Rattle.defs.specs.Computing.Cells.{keepsOrderb}
 use Rattle.geom.proofs.Strip.{lt-or-le}
 use Rattle.geom.proofs.Column.{clash}
@@ -28,22 +25,6 @@ use Rattle.checks.specs.Order.{rowb, pairsb, HeightOf, Ends}
 
 pub product : (a b m n : ℕ) → a ≤ m → b ≤ n → a * b ≤ m * n
 product a b m n h k = mul-le-mul h k
-
--- question 8
-pub eight-of : (o : List ℕ) → ((i : ℕ) → i < length o → getD o i 0 ≤ 16000) → q8b o ≡ true
-unfolding q8b all
-eight-of [] h = refl
-eight-of (x ∷ xs) h = ap₂ _&&_ (le-leb x 16000 (h 0 (omega arith))) (eight-of xs (λ i l. h (suc i) (omega arith)))
-
-pub eight-not : (o : List ℕ) (i : ℕ) → i < length o → 16000 < getD o i 0 → q8b o ≡ false
-unfolding q8b all
-eight-not [] i l h = absurd (omega arith)
-eight-not (x ∷ xs) zero l h = ap (λ (b : Bool). b && all (λ x. leb x 16000) xs) (lt-leb x 16000 h)
-eight-not (x ∷ xs) (suc i) l h = ap (λ (b : Bool). leb x 16000 && b) (eight-not xs i (omega arith) h) ∙ no (leb x 16000)
-  where
-    no : (b : Bool) → (b && false) ≡ false
-    no true = refl
-    no false = refl
 
 -- the height of an edge at x
 module _ {xl yl xr yr x : ℕ} (s : Small xl yl xr yr) (l : xl ≤ x) (r : x ≤ xr) where
@@ -70,15 +51,13 @@ any-more : (f : ℕ → Bool) (i : ℕ) → anyTo f i ≡ false → f i ≡ fals
 unfolding anyTo
 any-more f i h k = ap (anyTo f) (add-one i) ∙ rw (k, h) refl
 
-pub row-more : {xl yl xr yr : ℕ} (o : List ℕ) (t : ℕ) (e : Edge) (j : ℕ) → rowb (turned o t) e j ≡ false → SideOf o t j xl yl xr yr → changesb e (edgeOf xl yl xr yr) ≡ false → rowb (turned o t) e (j + 1) ≡ false
+pub row-more : (v : List ℕ) (e : Edge) (j : ℕ) → rowb v e j ≡ false → changesb e (edgeAt v j) ≡ false → rowb v e (j + 1) ≡ false
 unfolding rowb
-row-more o t e j h s k =
-    any-more (λ j. changesb e (edgeAt (turned o t) j)) j h (ap (changesb e) (sym (s .is)) ∙ k)
+row-more v e j h k = any-more (λ j. changesb e (edgeAt v j)) j h k
 
-pub row-hit : {xl yl xr yr : ℕ} (o : List ℕ) (t : ℕ) (e : Edge) (j i : ℕ) → j < i → SideOf o t j xl yl xr yr → changesb e (edgeOf xl yl xr yr) ≡ true → rowb (turned o t) e i ≡ true
+pub row-hit : (v : List ℕ) (e : Edge) (j i : ℕ) → j < i → changesb e (edgeAt v j) ≡ true → rowb v e i ≡ true
 unfolding rowb
-row-hit o t e j i l s k =
-    anyTo-of (λ j. changesb e (edgeAt (turned o t) j)) i j l (ap (changesb e) (sym (s .is)) ∙ k)
+row-hit v e j i l k = anyTo-of (λ j. changesb e (edgeAt v j)) i j l k
 
 pub no-pair : (v : List ℕ) → pairsb v 0 ≡ false
 unfolding pairsb anyTo

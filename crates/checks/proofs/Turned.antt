@@ -1,23 +1,18 @@
--- Question 10 turn by turn, and what questions 7 and 8 give: an outline that the outline's functions may be lent.
+-- Question 10 turn by turn.
 -- A test of all turns below 4 is true exactly when it is true of each.
 -- Assumes nothing.
 use mathlib.Core.Path.{_≡_, refl, ap, sym, subst, _∙_}
 use mathlib.Core.Bool.{Bool, true, false, not, _&&_, _||_, and-false}
-use mathlib.Core.List.{List, [], _∷_}
-use Prim.Native.Nat.{ℕ, zero, suc, _+_, _/_, _%_, _^_, _≤_, _<_}
+use mathlib.Core.List.{List}
+use Prim.Native.Nat.{ℕ, zero, suc, _+_, _/_, _%_, _^_, _<_}
 use native.Mathlib.Numerals.{add-one}
 use native.Mathlib.Omega.{arith}
 use native.Mathlib.Decide.{decLt}
-use lib.Dec.{leb, eqb}
-use lib.ListN.{getD}
-use borrow.Author.Tests.{leb-true}
-use Rattle.laws.proofs.Tests.{and-left, and-right, and-both}
-use Rattle.laws.proofs.Questions.{question-7}
+use lib.Dec.{eqb}
+use Rattle.laws.proofs.Tests.{and-both}
 use Rattle.defs.specs.Meaning.Turn.{turned, extentX}
-use Rattle.defs.specs.Computing.Test.{allTo, all}
-use Rattle.defs.specs.Computing.Calls.{q7b, q8b}
+use Rattle.defs.specs.Computing.Test.{allTo}
 use Rattle.defs.specs.Computing.Cells.{keepsOrderb, allowedb, ordersb}
-use Rattle.outline.specs.Vertex.{Lent}
 use Rattle.checks.specs.Order.{turnb, turnsb}
 
 -- bit t of the mask, by a division; for turn 0 there is none
@@ -65,20 +60,3 @@ module _ (o : List ℕ) (mask : ℕ) where
   pub turn-fails : (t : ℕ) → t < 4 → turnb o mask t ≡ false → false ≡ ordersb o mask
   unfolding turnb ordersb
   turn-fails t l e = sym (all-fails _ 4 t l e)
-
--- each word of an outline that passes 8 is small, and past its end the words read as 0
-small : (o : List ℕ) → q8b o ≡ true → (i : ℕ) → getD o i 0 ≤ 16000
-unfolding q8b all
-small [] e i = omega arith
-small (x ∷ xs) e zero = leb-true x 16000 (and-left (leb x 16000) _ e)
-small (x ∷ xs) e (suc i) = small xs (and-right (leb x 16000) _ e) i
-
-pub lent-of : (o : List ℕ) → q7b o ≡ true → q8b o ≡ true → Lent o
-lent-of o a b =
-    let q = question-7 o .0 a in
-    record {
-      even = omega (arith, q .even);
-      some = omega (arith, q .words .at-least);
-      few = omega (arith, q .words .at-most);
-      small = small o b;
-    }

@@ -2,8 +2,9 @@
 -- Assumes nothing.
 use mathlib.Core.Path.{_≡_}
 use mathlib.Core.Bool.{Bool, not, _||_}
+use mathlib.Core.Logic.{_⊎_}
 use mathlib.Core.List.{List}
-use Prim.Native.Nat.{ℕ, _≤_}
+use Prim.Native.Nat.{ℕ, _≤_, min, max}
 use Rattle.defs.specs.Meaning.Outline.{Edge, edgeAt, height}
 use Rattle.defs.specs.Meaning.Turn.{turned, extentX}
 use Rattle.defs.specs.Computing.Test.{anyTo, allTo}
@@ -19,6 +20,10 @@ pairsb v n = anyTo (λ i. rowb v (edgeAt v i) i) n
 pub record HeightOf (e : Edge) (x r : ℕ) : Type 0 where
   pub is : r ≡ height e x 1
   pub most : r ≤ 256000000
+
+-- an edge between heights p and q is all under height lo, or all over height hi
+pub record Outside (lo hi p q : ℕ) : Type 0 where
+  pub is : (max p q ≤ lo) ⊎ (hi ≤ min p q)
 
 pub record Ends (a0 b0 a1 b1 l : ℕ) : Type 0 where
   pub first-left : a0 ≤ 4096000000000

@@ -1,18 +1,21 @@
 // Questions 7 to 10.
 
 ghost use mathlib.Core.Path.{_≡_};
+ghost use mathlib.Core.Bool.{true, false};
 ghost use Prim.Native.Nat.{_+_, _*_, _-_, _≤_, _<_, min, max};
-ghost use lib.Dec.{leb};
-ghost use lib.ListN.{length};
-ghost use Rattle.defs.specs.Meaning.Outline.{sides};
+ghost use Rattle.defs.specs.Meaning.Outline.{sides, edgeAt};
 ghost use Rattle.defs.specs.Meaning.Turn.{turned, extentX};
+ghost use Rattle.defs.specs.Computing.Vertices.{readY};
 ghost use Rattle.defs.specs.Computing.Calls.{q7b, q8b, q9b};
 ghost use Rattle.defs.specs.Computing.Cells.{keepsOrderb, allowedb, ordersb};
-ghost use Rattle.outline.specs.Vertex.{Lent, BoundsOf, Small, edgeOf};
+ghost use Rattle.outline.specs.Vertex.{Lent, BoundsOf, FrameOf, Small, edgeOf};
 ghost use Rattle.slabs.specs.Change.{passesb, crossesb, changesb};
-ghost use Rattle.checks.specs.Order.{rowb, turnb, HeightOf, Ends};
+ghost use Rattle.checks.specs.Order.{rowb, turnb, HeightOf, Ends, Outside};
+ghost use Rattle.checks.specs.Says.{boundsNo, Says};
 use outline::Bounds;
+use outline::Frame;
 use outline::Side;
+use outline::Vertex;
 
 // Question 7: an even length of 6 to 128 words.
 pub fn seven(o: &[u16]) -> bool
@@ -27,19 +30,35 @@ pub fn seven(o: &[u16]) -> bool
     false
 }
 
-// Question 8: each coordinate at most 16,000.
-pub fn eight(o: &[u16]) -> bool
+// Question 8: each coordinate at most 16,000, so the greatest of them; the contract names the outline.
+fn eight(o: &[u16], b: Bounds) -> bool
+    requires { ⌜ q7b (now o) ≡ true ⌝ ∗ ⌜ BoundsOf (now o) b ⌝ }
     ensures { λ r. ⌜ r ≡ q8b (now (o .entry)) ⌝ }
 {
-    let n = o.len();
-    let mut i = 0;
-    while i < n {
-        if numbers::MOST_COORDINATE < o[i] {
-            return false;
-        }
-        i += 1;
+    if b.right <= numbers::MOST_COORDINATE {
+        return b.head <= numbers::MOST_COORDINATE;
     }
-    true
+    false
+}
+
+// The first of the questions asked that gets "no", by its number, or the bounds of an outline that passes them: they are worked out once.
+pub enum Checked {
+    No(u16),
+    Passes(Bounds),
+}
+
+// Questions 7 and 8.
+pub fn bounds(o: &[u16]) -> Checked
+    ensures { λ a. ⌜ Says (now (o .entry)) (boundsNo (now (o .entry))) a ⌝ }
+{
+    if !seven(o) {
+        return Checked::No(7);
+    }
+    let b = outline::bounds_of(o);
+    if !eight(o, b) {
+        return Checked::No(8);
+    }
+    Checked::Passes(b)
 }
 
 // Question 9: the mask is 1 to 15.
@@ -108,60 +127,75 @@ fn swaps(e: Side, f: Side) -> bool
     false
 }
 
-// Whether no point of the first edge is above one of the second.
-fn under(e: Side, f: Side) -> bool
-    ensures { λ r. ⌜ r ≡ leb (max (e .yl) (e .yr)) (min (f .yl) (f .yr)) ⌝ }
+// Whether an edge between heights p and q is neither all under height lo nor all over height hi.
+fn beside(lo: u16, hi: u16, p: u16, q: u16) -> bool
+    ensures { λ r. ⌜ (r ≡ false → Outside lo hi p q) ⌝ }
 {
-    numbers::more(e.yl, e.yr) <= numbers::less(f.yl, f.yr)
+    if p <= lo {
+        if q <= lo {
+            return false;
+        }
+    }
+    if hi <= p {
+        return q < hi;
+    }
+    true
 }
 
-// The same. Of most pairs one is under the other, which is found without products.
-pub fn changes(e: Side, f: Side) -> bool
-    requires { ⌜ Small (e .xl) (e .yl) (e .xr) (e .yr) ⌝ ∗ ⌜ Small (f .xl) (f .yl) (f .xr) (f .yr) ⌝ }
-    ensures { λ r. ⌜ r ≡ changesb (edgeOf (e .xl) (e .yl) (e .xr) (e .yr)) (edgeOf (f .xl) (f .yl) (f .xr) (f .yr)) ⌝ }
+// Whether e, between heights lo and hi, changes order with edge j, which goes from y = p to y = q. Its x are read only where it is beside e,
+// which few edges are.
+fn changes(o: &[u16], f: Frame, e: Side, lo: u16, hi: u16, j: usize, p: u16, q: u16) -> bool
+    requires { ⌜ Lent (now o) ⌝ ∗ ⌜ FrameOf (now o) f ⌝ ∗ ⌜ Small (e .xl) (e .yl) (e .xr) (e .yr) ⌝
+        ∗ ⌜ (lo ≡ min (e .yl) (e .yr)) × (hi ≡ max (e .yl) (e .yr)) ⌝
+        ∗ ⌜ (j + 1 < sides (now o)) × (p ≡ readY (now o) (f .turn) j) × (q ≡ readY (now o) (f .turn) (j + 1)) ⌝ }
+    ensures { λ r. ⌜ r ≡ changesb (edgeOf (e .xl) (e .yl) (e .xr) (e .yr)) (edgeAt (turned (now (o .entry)) (f .turn)) j) ⌝ }
 {
-    if under(e, f) {
-        return false;
+    if beside(lo, hi, p, q) {
+        let u = outline::x_at(o, f, j);
+        let v = outline::x_at(o, f, j + 1);
+        return swaps(
+            e,
+            outline::side_of(Vertex { x: u, y: p }, Vertex { x: v, y: q }),
+        );
     }
-    if under(f, e) {
-        return false;
-    }
-    swaps(e, f)
+    false
 }
 
-// Whether an edge changes order with one of the edges before i. u is vertex j, read in the step before.
-fn row(o: &[u16], b: Bounds, t: u16, e: Side, i: usize) -> bool
-    requires { ⌜ Lent (now o) ⌝ ∗ ⌜ BoundsOf (now o) (b .left) (b .right) (b .foot) (b .head) ⌝ ∗ ⌜ (t ≤ 3) × (i < sides (now o)) ⌝
-        ∗ ⌜ Small (e .xl) (e .yl) (e .xr) (e .yr) ⌝ }
-    ensures { λ r. ⌜ r ≡ rowb (turned (now (o .entry)) t) (edgeOf (e .xl) (e .yl) (e .xr) (e .yr)) i ⌝ }
+// Whether an edge changes order with one of the edges before i. Vertex j is at y = p, read in the step before.
+fn row(o: &[u16], f: Frame, e: Side, i: usize) -> bool
+    requires { ⌜ Lent (now o) ⌝ ∗ ⌜ FrameOf (now o) f ⌝ ∗ ⌜ i < sides (now o) ⌝ ∗ ⌜ Small (e .xl) (e .yl) (e .xr) (e .yr) ⌝ }
+    ensures { λ r. ⌜ r ≡ rowb (turned (now (o .entry)) (f .turn)) (edgeOf (e .xl) (e .yl) (e .xr) (e .yr)) i ⌝ }
 {
-    let g = outline::frame_of(b, t);
-    let mut u = outline::vertex_in(o, b, t, g, 0);
+    let lo = numbers::less(e.yl, e.yr);
+    let hi = numbers::more(e.yl, e.yr);
+    let mut p = outline::y_at(o, f, 0);
     let mut j = 0;
     while j < i {
-        let v = outline::vertex_in(o, b, t, g, j + 1);
-        let f = outline::side_of(u, v);
-        if changes(e, f) {
+        let q = outline::y_at(o, f, j + 1);
+        if changes(o, f, e, lo, hi, j, p, q) {
             return true;
         }
-        u = v;
+        p = q;
         j += 1;
     }
     false
 }
 
-// Question 10 in turn t: whether no two edges change order.
-pub fn keeps_order(o: &[u16], b: Bounds, t: u16) -> bool
-    requires { ⌜ Lent (now o) ⌝ ∗ ⌜ BoundsOf (now o) (b .left) (b .right) (b .foot) (b .head) ⌝ ∗ ⌜ t ≤ 3 ⌝ }
-    ensures { λ r. ⌜ r ≡ keepsOrderb (turned (now (o .entry)) t) (extentX (now (o .entry)) t) ⌝ }
+// Question 10 in the frame's turn: whether no two edges change order. u is vertex i, read in the step before.
+pub fn keeps_order(o: &[u16], f: Frame) -> bool
+    requires { ⌜ Lent (now o) ⌝ ∗ ⌜ FrameOf (now o) f ⌝ }
+    ensures { λ r. ⌜ r ≡ keepsOrderb (turned (now (o .entry)) (f .turn)) (extentX (now (o .entry)) (f .turn)) ⌝ }
 {
     let n = o.len() / 2;
+    let mut u = outline::vertex_at(o, f, 0);
     let mut i = 0;
     while i < n {
-        let e = outline::side_at(o, b, t, i);
-        if row(o, b, t, e, i) {
+        let v = outline::vertex_at(o, f, outline::next(n, i));
+        let e = outline::side_of(u, v);
+        if row(o, f, e, i) {
             return false;
         }
+        u = v;
         i += 1;
     }
     true
@@ -186,18 +220,18 @@ pub fn allows(mask: u16, t: u16) -> bool
 
 // Whether turn t keeps the order, if the mask allows it.
 fn turn_keeps(o: &[u16], b: Bounds, mask: u16, t: u16) -> bool
-    requires { ⌜ Lent (now o) ⌝ ∗ ⌜ BoundsOf (now o) (b .left) (b .right) (b .foot) (b .head) ⌝ ∗ ⌜ t ≤ 3 ⌝ }
+    requires { ⌜ Lent (now o) ⌝ ∗ ⌜ BoundsOf (now o) b ⌝ ∗ ⌜ t ≤ 3 ⌝ }
     ensures { λ r. ⌜ r ≡ turnb (now (o .entry)) mask t ⌝ }
 {
     if allows(mask, t) {
-        return keeps_order(o, b, t);
+        return keeps_order(o, outline::frame_of(o, b, t));
     }
     true
 }
 
 // Question 10: whether no two edges change order in an allowed turn.
 pub fn all_keep_order(o: &[u16], b: Bounds, mask: u16) -> bool
-    requires { ⌜ Lent (now o) ⌝ ∗ ⌜ BoundsOf (now o) (b .left) (b .right) (b .foot) (b .head) ⌝ }
+    requires { ⌜ Lent (now o) ⌝ ∗ ⌜ BoundsOf (now o) b ⌝ }
     ensures { λ r. ⌜ r ≡ ordersb (now (o .entry)) mask ⌝ }
 {
     let mut t = 0;

@@ -8,6 +8,7 @@ pub mod PlaceAnswers
 pub mod CommitAnswers
 pub mod AskCommit
 pub mod Tries
+pub mod Vertices
 pub mod Effects
 pub mod Distance
 pub mod Whole

@@ -6,6 +6,7 @@ pub mod Demand3
 pub mod Places
 pub mod Asking
 pub mod Tries
+pub mod Vertices
 pub mod Laying
 pub mod Numbers
 pub mod Wrong

@@ -3,7 +3,7 @@
 use mathlib.Core.Path.{_≡_, sym, subst}
 use mathlib.Core.Logic.{inl, inr, ⊎-elim}
 use mathlib.Core.List.{List}
-use Prim.Native.Nat.{ℕ, _+_, _*_, _-_, _≤_, _<_}
+use Prim.Native.Nat.{ℕ, _+_, _-_, _≤_, _<_}
 use native.Mathlib.Omega.{arith}
 use lib.ListN.{length}
 use Rattle.defs.specs.Meaning.Outline.{vy, sides, KeepsOrder}
@@ -12,7 +12,7 @@ use Rattle.defs.specs.Meaning.Cell.{Covered}
 use Rattle.laws.proofs.Extremes.{greatest-limit}
 use Rattle.geom.proofs.Strip.{lt-or-le}
 use Rattle.geom.proofs.Extent.{covered-within, sides-turned}
-use Rattle.outline.specs.Vertex.{Lent, BoundsOf}
+use Rattle.outline.specs.Vertex.{Lent}
 use Rattle.outline.proofs.Limit.{vertex-limit}
 use Rattle.geom.specs.Units.{InUnits}
 use Rattle.slabs.specs.Slab.{Neat, InSlab}
@@ -20,7 +20,7 @@ use Rattle.slabs.proofs.Cut.{slab-covered, covered-slab}
 use Rattle.gaps.specs.Gaps.{SlabRow, Adds, Room}
 use Rattle.column.specs.Rows.{Buffers}
 
-module _ {o : List ℕ} {l r f h : ℕ} (k : Lent o) (b : BoundsOf o l r f h) where
+module _ {o : List ℕ} (k : Lent o) where
   module _ (t : ℕ) (m : t ≤ 3) (keeps : KeepsOrder (turned o t)) where
     some-sides : 0 < sides (turned o t)
     some-sides = subst (λ (n : ℕ). 0 < n) (sym (sides-turned o t)) (omega (arith, k .some))
@@ -28,7 +28,7 @@ module _ {o : List ℕ} {l r f h : ℕ} (k : Lent o) (b : BoundsOf o l r f h) wh
     pub row-limit : (a c y : ℕ) → InUnits (turned o t) a c y → y < 16000
     row-limit a c y u =
         let w = covered-within (turned o t) keeps some-sides 1 (u .k) y (u .there) in
-        omega (arith, w .row, greatest-limit (vy (turned o t)) (sides (turned o t)) 16000 (λ i q. vertex-limit k b t m i (subst (λ (n : ℕ). i < n) (sides-turned o t) q) .1))
+        omega (arith, w .row, greatest-limit (vy (turned o t)) (sides (turned o t)) 16000 (λ i q. vertex-limit k t m i (subst (λ (n : ℕ). i < n) (sides-turned o t) q) .1))
 
     pub units-more : (s : ℕ) {a c : ℕ} {l0 h0 l1 h1 l2 h2 : List ℕ} {n p q : ℕ} → s ≤ a → Neat (turned o t) a c → Adds (InUnits (turned o t) s a) l0 h0 l1 h1 n p → Adds (SlabRow (turned o t) a c) l1 h1 l2 h2 p q → Adds (InUnits (turned o t) s c) l0 h0 l2 h2 n q
     units-more s {a} {c} {l0} {h0} {l1} {h1} {l2} {h2} {n} {p} {q} sa neat u v = go (c - a) (omega (arith, neat .wide))

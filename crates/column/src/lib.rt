@@ -5,12 +5,12 @@ ghost use Prim.Native.Nat.{_+_, _-_, _/_, _≤_, _<_};
 ghost use lib.ListN.{length};
 ghost use Rattle.defs.specs.Meaning.Outline.{KeepsOrder};
 ghost use Rattle.defs.specs.Meaning.Turn.{turned};
-ghost use Rattle.outline.specs.Vertex.{Lent, BoundsOf};
+ghost use Rattle.outline.specs.Vertex.{Lent, FrameOf};
 ghost use Rattle.entries.specs.Edges.{AllFit};
 ghost use Rattle.gaps.specs.Gaps.{Room};
 ghost use Rattle.column.specs.Rows.{AddsPart, onLine, Heights, Parted, Working, ColumnOf};
 use cuts::Section;
-use outline::Bounds;
+use outline::Frame;
 
 // The runs of a column, and the slab that was looked at last.
 pub struct Filled {
@@ -78,8 +78,7 @@ fn portion(
 // The runs of the column from `from` to `to`. What is loaded of the slab s is used again where the column begins in it.
 pub fn column(
     o: &[u16],
-    b: Bounds,
-    t: u16,
+    f: Frame,
     from: u16,
     to: u16,
     s: Section,
@@ -91,16 +90,16 @@ pub fn column(
     lows: &mut [u16],
     highs: &mut [u16],
 ) -> Filled
-    requires { ⌜ Lent (now o) ⌝ ∗ ⌜ BoundsOf (now o) (b .left) (b .right) (b .foot) (b .head) ⌝ ∗ ⌜ (t ≤ 3) × (from ≤ to) ⌝
-        ∗ ⌜ KeepsOrder (turned (now o) t) ⌝
-        ∗ ⌜ Working (turned (now o) t) (s .start) (s .end) (s .count) (s .cut) (now h0) (now h1) (now w) (now g0) (now g1) (now lows) (now highs) ⌝ }
-    ensures { λ r. ⌜ ColumnOf (turned (now (o .entry)) t) from to (now (h0 .exit)) (now (h1 .exit)) (now (w .exit)) (now (lows .exit)) (now (highs .exit)) (r .runs) (r .slab .start) (r .slab .end) (r .slab .count) (r .slab .cut) ⌝ }
+    requires { ⌜ Lent (now o) ⌝ ∗ ⌜ FrameOf (now o) f ⌝ ∗ ⌜ from ≤ to ⌝
+        ∗ ⌜ KeepsOrder (turned (now o) (f .turn)) ⌝
+        ∗ ⌜ Working (turned (now o) (f .turn)) (s .start) (s .end) (s .count) (s .cut) (now h0) (now h1) (now w) (now g0) (now g1) (now lows) (now highs) ⌝ }
+    ensures { λ r. ⌜ ColumnOf (turned (now (o .entry)) (f .turn)) from to (now (h0 .exit)) (now (h1 .exit)) (now (w .exit)) (now (lows .exit)) (now (highs .exit)) (r .runs) (r .slab .start) (r .slab .end) (r .slab .count) (r .slab .cut) ⌝ }
 {
     let mut k = s;
     let mut n = 0;
     let mut a = from;
     while a < to {
-        k = section::held(o, b, t, a, to, k, h0, h1, w);
+        k = section::held(o, f, a, to, k, h0, h1, w);
         let e = numbers::less(k.end, to);
         n = portion(k, a, e, h0, h1, w, g0, g1, lows, highs, n);
         a = e;

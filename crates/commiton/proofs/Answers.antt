@@ -22,8 +22,9 @@ use Rattle.defs.specs.Computing.Calls.{refusal, q14b, q18b, commitOn}
 use Rattle.laws.proofs.Tests.{Decides, leb-decides, and-decides, same-test, pos-not-zero}
 use Rattle.geom.proofs.OneTurn.{room-one}
 use Rattle.geom.proofs.Checks.{keeps-decides}
+use Rattle.outline.specs.declared.Bounds.{Bounds}
 use Rattle.outline.specs.Vertex.{Lent, BoundsOf}
-use Rattle.checks.proofs.Turned.{lent-of}
+use Rattle.checks.proofs.Bounded.{lent-of}
 use Rattle.cells.specs.Put.{PutRuns, Resolution}
 use Rattle.cover.specs.Turn.{turnNo}
 use Rattle.cover.proofs.Answers.{passed, outline-by-turn, some-without, none-without}
@@ -130,8 +131,8 @@ pub refused-on : {f l h f' l' h' o : List ℕ} {W R N g Q words number ordinal :
     CommittedOn f l h f' l' h' o W R N g Q p words a
 refused-on {p = p} e q = rw e (record { answer = ap (placedAt p) q; next = tt })
 
-module _ {f l h o work work' : List ℕ} {W R N g left right foot head n k w wide tall : ℕ} (p : Position) (small : g ≤ 400)
-    (laid : Laid f l h W N n) (none : TurnPasses o (p .turn)) (bounds : BoundsOf o left right foot head)
+module _ {f l h o work work' : List ℕ} {W R N g n k w wide tall : ℕ} {b : Bounds} (p : Position) (small : g ≤ 400)
+    (laid : Laid f l h W N n) (none : TurnPasses o (p .turn)) (bounds : BoundsOf o b)
     (put : PutRuns o (p .turn) R g work work' k) (room : k ≤ length work' / 3) (across : w ≡ extentX o (p .turn))
     (columns : wide ≡ columnsFor w R) (up : tall ≡ extentY o (p .turn)) where
   wide-is : wide ≡ columnsFor (extentX o (p .turn)) R
@@ -144,7 +145,7 @@ module _ {f l h o work work' : List ℕ} {W R N g left right foot head n k w wid
     pub tested : a ≡ q18b W R N g (tableOf f l h N) o p
     tested = fits-is R g o p small laid (stands put room) wide-is up there
 
-    pub enterable : a ≡ true → {words : ℕ} → words ≡ length work' → Enterable f l h o W R N g left right foot head words p
+    pub enterable : a ≡ true → {words : ℕ} → words ≡ length work' → Enterable f l h o W R N g b words p
     enterable e q =
         let on = there .is .0 e in
         record {

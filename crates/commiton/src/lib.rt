@@ -2,11 +2,14 @@
 // it answers its position, as place does.
 
 ghost use lib.ListN.{length};
+ghost use Rattle.outline.specs.Vertex.{BoundsOf};
 ghost use Rattle.position.specs.Table.{Tabled};
 ghost use Rattle.commiton.specs.Commits.{TurnPasses, CommittedOn};
+use checks::Checked;
 use defs::Figures;
 use defs::Placing;
 use defs::Position;
+use outline::Bounds;
 use ranks::Standing;
 use walk::Search;
 
@@ -19,6 +22,7 @@ fn commit_runs(
     lows: &[u16],
     highs: &[u16],
     o: &[u16],
+    b: Bounds,
     p: Position,
     work: &mut [u16],
     first2: &mut [u16],
@@ -26,12 +30,11 @@ fn commit_runs(
     highs2: &mut [u16],
 ) -> Placing
     requires { ⌜ Tabled (now first) (now lows) (now highs) (now first2) (now lows2) (now highs2) (g .width) (g .resolution) (g .columns) gap q ⌝
-        ∗ ⌜ TurnPasses (now o) (p .turn) ⌝ }
+        ∗ ⌜ TurnPasses (now o) (p .turn) ⌝ ∗ ⌜ BoundsOf (now o) b ⌝ }
     ensures { λ a. ⌜ CommittedOn (now (first .entry)) (now (lows .entry)) (now (highs .entry)) (now (first2 .exit)) (now (lows2 .exit)) (now (highs2 .exit)) (now (o .entry)) (g .width) (g .resolution) (g .columns) gap q p (length (now (work .entry))) a ⌝ }
 {
-    let b = outline::bounds_of(o);
     let e = outline::extent_of(o, b, p.turn);
-    let k = cells::put_runs(o, b, p.turn, g.resolution, gap, e.w, work);
+    let k = cells::put_turn(o, b, p.turn, g.resolution, gap, e.w, work);
     if k == 0 {
         return position::refused(11, 1);
     }
@@ -88,22 +91,22 @@ pub fn commit_on(
     requires { ⌜ Tabled (now first) (now lows) (now highs) (now first2) (now lows2) (now highs2) (g .width) (g .resolution) (g .columns) gap q ⌝ }
     ensures { λ a. ⌜ CommittedOn (now (first .entry)) (now (lows .entry)) (now (highs .entry)) (now (first2 .exit)) (now (lows2 .exit)) (now (highs2 .exit)) (now (o .entry)) (g .width) (g .resolution) (g .columns) gap q p (length (now (work .entry))) a ⌝ }
 {
-    let n = cover::turn_no(o, p.turn);
-    if n != 0 {
-        return position::refused(n, 1);
+    match cover::order(o, p.turn) {
+        Checked::No(n) => position::refused(n, 1),
+        Checked::Passes(b) => commit_runs(
+            g,
+            gap,
+            q,
+            first,
+            lows,
+            highs,
+            o,
+            b,
+            p,
+            work,
+            first2,
+            lows2,
+            highs2,
+        ),
     }
-    commit_runs(
-        g,
-        gap,
-        q,
-        first,
-        lows,
-        highs,
-        o,
-        p,
-        work,
-        first2,
-        lows2,
-        highs2,
-    )
 }

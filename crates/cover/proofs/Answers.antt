@@ -1,10 +1,10 @@
 -- The first question of 7 to 10 that gets "no", by the tests that were made.
 -- Assumes nothing.
-use mathlib.Core.Path.{_≡_, refl}
+use mathlib.Core.Path.{_≡_, refl, subst}
 use mathlib.Core.Logic.{_↔_, ⊎-elim}
 use mathlib.Core.Bool.{Bool, true, false, cond}
 use mathlib.Core.List.{List}
-use Prim.Native.Nat.{ℕ, _*_, _^_, _≤_, _<_}
+use Prim.Native.Nat.{ℕ, zero, suc, _+_, _*_, _-_, _^_, _≤_, _<_}
 use native.Mathlib.Omega.{arith}
 use lib.Dec.{leb, ltb, eqb}
 use borrow.Author.Tests.{le-leb, lt-leb, lt-ltb, leb-true}
@@ -19,28 +19,36 @@ use Rattle.laws.proofs.Questions.{question-7}
 use Rattle.geom.proofs.Strip.{lt-or-le}
 use Rattle.geom.proofs.Checks.{keeps-decides, same-run, has-side}
 use Rattle.geom.proofs.OneTurn.{orders-one, cell-one, room-one}
+use Rattle.checks.specs.declared.Checked.{Checked}
+use Rattle.checks.specs.Says.{Says}
+use Rattle.asked.specs.Answers.{orderNo}
 use Rattle.cover.specs.Turn.{turnNo}
 
 module _ (o : List ℕ) (t : ℕ) where
-  pub no-7 : q7b o ≡ false → 7 ≡ turnNo o t
-  unfolding turnNo
-  no-7 a = rw a
+  -- 7 to 10 of the mask that allows the turn alone, 9 of the turn
+  pub no-turn : 3 < t → orderNo o false 0 ≡ turnNo o t
+  unfolding orderNo turnNo
+  no-turn l = rw (lt-leb t 3 l) refl
 
-  pub no-8 : q7b o ≡ true → q8b o ≡ false → 8 ≡ turnNo o t
-  unfolding turnNo
-  no-8 a b = rw (a, b)
+  pub turn-alone : t ≤ 3 → orderNo o true (2 ^ t) ≡ turnNo o t
+  unfolding orderNo turnNo
+  turn-alone l = rw (le-leb t 3 l, orders-one o t l) refl
 
-  pub no-9 : q7b o ≡ true → q8b o ≡ true → 3 < t → 9 ≡ turnNo o t
-  unfolding turnNo
-  no-9 a b c = rw (a, b, lt-leb t 3 c)
+pub said : (o : List ℕ) (a : Checked) {m n : ℕ} → m ≡ n → Says o m a → Says o n a
+said o a e s = subst (λ (n : ℕ). Says o n a) e s
 
-  pub no-10 : q7b o ≡ true → q8b o ≡ true → t ≤ 3 → keepsOrderb (turned o t) (extentX o t) ≡ false → 10 ≡ turnNo o t
-  unfolding turnNo
-  no-10 a b c d = rw (a, b, le-leb t 3 c, d)
+-- the bits of the four turns
+pub low-bit : (t : ℕ) → t < 2 → t + 1 ≡ 2 ^ t
+low-bit zero l = refl
+low-bit (suc zero) l = refl
+low-bit (suc (suc t)) l = absurd (omega arith)
 
-  pub no-none : q7b o ≡ true → q8b o ≡ true → t ≤ 3 → keepsOrderb (turned o t) (extentX o t) ≡ true → 0 ≡ turnNo o t
-  unfolding turnNo
-  no-none a b c d = rw (a, b, le-leb t 3 c, d)
+pub high-bit : (t : ℕ) → t ≤ 3 → 2 ≤ t → 4 * (t - 1) ≡ 2 ^ t
+high-bit zero m l = absurd (omega arith)
+high-bit (suc zero) m l = absurd (omega arith)
+high-bit (suc (suc zero)) m l = refl
+high-bit (suc (suc (suc zero))) m l = refl
+high-bit (suc (suc (suc (suc t)))) m l = absurd (omega arith)
 
 -- none of them got "no"
 pub record Passed (o : List ℕ) (t : ℕ) : Type 0 where

@@ -1,6 +1,6 @@
 -- From the tests and the written runs to the step of cover.
 -- Assumes nothing.
-use mathlib.Core.Path.{_≡_, sym, ap, _∙_}
+use mathlib.Core.Path.{_≡_, sym, ap, subst, _∙_}
 use mathlib.Core.Bool.{Bool, true, false, cond}
 use mathlib.Core.List.{List, [], _∷_, _++_}
 use Prim.Native.Nat.{ℕ, zero, suc, _+_, _*_, _-_, _/_, _^_, _≤_, _<_}
@@ -12,7 +12,7 @@ use lib.Seq.{sets, sets-eq, take-at}
 use Rattle.defs.specs.declared.Covering.{Covering}
 use Rattle.defs.specs.declared.Covering.the-variants.{Runs, Refused as NotCovered}
 use Rattle.defs.specs.Meaning.Limits.{mostGap}
-use Rattle.defs.specs.Meaning.Outline.{KeepsOrder}
+use Rattle.defs.specs.Meaning.Outline.{sides, KeepsOrder}
 use Rattle.defs.specs.Meaning.Turn.{turned, extentX, extentY}
 use Rattle.defs.specs.Meaning.Placing.{columnsFor}
 use Rattle.defs.specs.Computing.Test.{listFrom}
@@ -20,19 +20,26 @@ use Rattle.defs.specs.Computing.Cells.{Rows, joinRow, stretches, coveredb, piec
 use Rattle.defs.specs.Computing.Calls.{refusal, runsWords, coverAnswer, coverOutput, CoverStep}
 use Rattle.laws.proofs.Questions.{question-16, question-21}
 use Rattle.geom.proofs.Checks.{keeps-decides}
-use Rattle.outline.specs.Vertex.{Lent}
-use Rattle.checks.proofs.Turned.{lent-of}
+use Rattle.outline.specs.declared.Frame.{Frame}
+use Rattle.outline.specs.Vertex.{Lent, FrameOf}
+use Rattle.checks.proofs.Bounded.{lent-of, has-vertex}
 use Rattle.cells.specs.Put.{PutRuns, Resolution}
 use Rattle.geom.proofs.RunWords.{runs-length}
+use Rattle.defs.specs.Computing.Words.{resolutionb, gapb}
+use Rattle.cover.specs.Turn.{turnNo}
 use Rattle.cover.specs.Written.{CoverRuns, Counted}
 use Rattle.cover.proofs.Answers.{passed, some-without, none-without, cover-11, cover-12, cover-runs}
+
+-- what 7 to 10 give
+pub vertices : (o : List ℕ) (t : ℕ) → turnNo o t ≡ 0 → 1 ≤ sides o
+vertices o t e = has-vertex o (passed o t (sym e) .seven)
+
+pub turn-limit : (o : List ℕ) (t : ℕ) → turnNo o t ≡ 0 → t ≤ 3
+turn-limit o t e = passed o t (sym e) .nine
 
 -- what 16, 21 and 7 to 10 give
 pub lent : {o : List ℕ} {t R g : ℕ} → CoverRuns o t R g → Lent o
 lent {o} {t} c = let p = passed o t (c .none-no) in lent-of o (p .seven) (p .eight)
-
-pub turn-limit : {o : List ℕ} {t R g : ℕ} → CoverRuns o t R g → t ≤ 3
-turn-limit {o} {t} c = passed o t (c .none-no) .nine
 
 pub keeps : {o : List ℕ} {t R g : ℕ} → CoverRuns o t R g → KeepsOrder (turned o t)
 keeps {o} {t} c = keeps-decides o t .0 (passed o t (c .none-no) .ten)
@@ -42,6 +49,18 @@ in-limits {R = R} c = let b = question-16 R .0 (c .resolution) in record { least
 
 pub gap-limit : {o : List ℕ} {t R g : ℕ} → CoverRuns o t R g → g ≤ mostGap
 gap-limit {g = g} c = question-21 g .0 (c .gap)
+
+-- the same in the frame's turn
+pub in-frame : {o : List ℕ} {f : Frame} {t R g w h : ℕ} → resolutionb R ≡ true → gapb g ≡ true → turnNo o t ≡ 0 → FrameOf o f → f .turn ≡ t →
+    w ≡ extentX o t → h ≡ extentY o t →
+    CoverRuns o (f .turn) R g × (FrameOf o f × ((w ≡ extentX o (f .turn)) × (h ≡ extentY o (f .turn))))
+in-frame {o} resolution gap none frame e ew eh = (
+  record { resolution = resolution; gap = gap; none-no = sym (ap (turnNo o) e ∙ none) },
+  (frame, (ew ∙ ap (extentX o) (sym e), eh ∙ ap (extentY o) (sym e))),
+)
+
+pub step-at : {o : List ℕ} {s t R g : ℕ} {out out' : List ℕ} {a : Covering} → s ≡ t → CoverStep o s R g out a out' → CoverStep o t R g out a out'
+step-at {o} {R = R} {g = g} {out = out} {out' = out'} {a = a} e c = subst (λ (t : ℕ). CoverStep o t R g out a out') e c
 
 words-long : {o : List ℕ} {t R g : ℕ} {out out' : List ℕ} {k : ℕ} → PutRuns o t R g out out' k →
     length (runsWords 0 (pieceRuns o t R g)) ≡ 3 * k

@@ -6,11 +6,10 @@ use mathlib.Core.List.{List}
 use Prim.Native.Nat.{ℕ, _+_, _*_, _≤_, _<_}
 use native.Mathlib.Omega.{arith}
 use lib.ListN.{getD}
-use Rattle.defs.specs.Meaning.Outline.{sides}
+use Rattle.defs.specs.Meaning.Outline.{vx, sides}
 use Rattle.defs.specs.Meaning.Turn.{turned}
 use Rattle.geom.proofs.Strip.{lt-or-le}
 use Rattle.geom.proofs.Extent.{sides-turned}
-use Rattle.outline.specs.Vertex.{VertexOf}
 use Rattle.entries.specs.Edges.{AllFit, Rising, NextAt, Nearer}
 use Rattle.entries.proofs.Entries.{below-one, next-none, next-more, next-end, product}
 use Rattle.entries.proofs.Sorting.{frac-trans}
@@ -19,8 +18,8 @@ use Rattle.cuts.specs.Cut.{CutAt}
 pub cut-none : (v : List ℕ) (a c : ℕ) → a < c → CutAt v a 0 c
 cut-none v a c h = record { more = h; next = next-none v a c }
 
-pub cut-more : {o : List ℕ} {t a i r x y z : ℕ} → CutAt (turned o t) a i r → VertexOf o t i x y → Nearer a x r z → CutAt (turned o t) a (i + 1) z
-cut-more k v n = record { more = n .more (k .more); next = next-more (k .next) (v .across) n }
+pub cut-more : {v : List ℕ} {a i r x z : ℕ} → CutAt v a i r → x ≡ vx v i → Nearer a x r z → CutAt v a (i + 1) z
+cut-more k e n = record { more = n .more (k .more); next = next-more (k .next) e n }
 
 pub cut-end : {v : List ℕ} {a i n r : ℕ} → CutAt v a i r → i ≡ n → CutAt v a n r
 cut-end k e = record { more = k .more; next = next-end (k .next) e }

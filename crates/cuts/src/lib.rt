@@ -2,13 +2,13 @@
 
 ghost use mathlib.Core.Path.{_≡_};
 ghost use mathlib.Core.Bool.{true};
-ghost use Prim.Native.Nat.{_≤_, _<_};
+ghost use Prim.Native.Nat.{_<_};
 ghost use Rattle.defs.specs.Meaning.Outline.{sides};
 ghost use Rattle.defs.specs.Meaning.Turn.{turned};
-ghost use Rattle.outline.specs.Vertex.{Lent, BoundsOf};
+ghost use Rattle.outline.specs.Vertex.{Lent, FrameOf};
 ghost use Rattle.entries.specs.Edges.{AllFit, NextAt, Rising};
 ghost use Rattle.cuts.specs.Cut.{CutAt};
-use outline::Bounds;
+use outline::Frame;
 
 // The slab that was looked at last, from x = start to x = end, how many edges span it, and where the next slab may end. Empty where
 // start is end. Four words of 16 bits, so that one move copies it: it goes through several calls for each column.
@@ -32,17 +32,16 @@ pub fn none() -> Section
 }
 
 // The end of the slab that begins at a: the next vertex, or `to`.
-pub fn cut(o: &[u16], b: Bounds, t: u16, a: u16, to: u16) -> u16
-    requires { ⌜ Lent (now o) ⌝ ∗ ⌜ BoundsOf (now o) (b .left) (b .right) (b .foot) (b .head) ⌝ ∗ ⌜ (t ≤ 3) × (a < to) ⌝ }
-    ensures { λ r. ⌜ CutAt (turned (now (o .entry)) t) a (sides (now (o .entry))) r ⌝ }
+pub fn cut(o: &[u16], f: Frame, a: u16, to: u16) -> u16
+    requires { ⌜ Lent (now o) ⌝ ∗ ⌜ FrameOf (now o) f ⌝ ∗ ⌜ a < to ⌝ }
+    ensures { λ r. ⌜ CutAt (turned (now (o .entry)) (f .turn)) a (sides (now (o .entry))) r ⌝ }
 {
     let n = o.len() / 2;
-    let f = outline::frame_of(b, t);
     let mut r = to;
     let mut i = 0;
     while i < n {
-        let v = outline::vertex_in(o, b, t, f, i);
-        r = entries::nearer(a, v.x, r);
+        let x = outline::x_at(o, f, i);
+        r = entries::nearer(a, x, r);
         i += 1;
     }
     r
@@ -65,15 +64,15 @@ pub fn tidy(h0: &[u64], h1: &[u64], w: &[u64], m: usize) -> bool
 }
 
 // Where the slab that begins at a may end, found already if it follows s. It may be to the right of `to`: no vertex lies beyond 16,000.
-pub fn slab_end(o: &[u16], b: Bounds, t: u16, a: u16, to: u16, s: Section) -> u16
-    requires { ⌜ Lent (now o) ⌝ ∗ ⌜ BoundsOf (now o) (b .left) (b .right) (b .foot) (b .head) ⌝ ∗ ⌜ (t ≤ 3) × (a < to) ⌝
-        ∗ ⌜ NextAt (turned (now o) t) (s .end) (sides (turned (now o) t)) (s .cut) ⌝ }
-    ensures { λ r. ⌜ CutAt (turned (now (o .entry)) t) a (sides (now (o .entry))) r ⌝ }
+pub fn slab_end(o: &[u16], f: Frame, a: u16, to: u16, s: Section) -> u16
+    requires { ⌜ Lent (now o) ⌝ ∗ ⌜ FrameOf (now o) f ⌝ ∗ ⌜ a < to ⌝
+        ∗ ⌜ NextAt (turned (now o) (f .turn)) (s .end) (sides (turned (now o) (f .turn))) (s .cut) ⌝ }
+    ensures { λ r. ⌜ CutAt (turned (now (o .entry)) (f .turn)) a (sides (now (o .entry))) r ⌝ }
 {
     if a == s.end {
         if a < s.cut {
             return s.cut;
         }
     }
-    cut(o, b, t, a, numbers::more(to, numbers::MOST_COORDINATE))
+    cut(o, f, a, numbers::more(to, numbers::MOST_COORDINATE))
 }

@@ -18,11 +18,14 @@ use Rattle.defs.specs.declared.Committing.the-variants.{Committed, Refus
 use Rattle.defs.specs.declared.Reading.the-variants.{Read, Refused as NotRead}
 use Rattle.defs.specs.declared.Writing.the-variants.{Written, Refused as NotWritten}
 use Rattle.defs.specs.declared.Laying.the-variants.{Laid, Refused as NotLaid}
+use Rattle.defs.specs.Meaning.Outline.{sides}
+use Rattle.defs.specs.Meaning.Turn.{outlineFrom, turned}
 use Rattle.defs.specs.Meaning.Sheet.{Piece, listWords}
 use Rattle.defs.specs.Computing.Cells.{Rows, pieceRuns}
 use Rattle.defs.specs.Computing.Words.{wellFormedb}
 use Rattle.defs.specs.Computing.Search.{position}
 use Rattle.defs.specs.Computing.Walk.{turnWalk, walkEnd, triesBound}
+use Rattle.defs.specs.Computing.Vertices.{readX, readY}
 use Rattle.defs.specs.Computing.Calls.{refusal, openAnswer, coverAnswer, coverOutput, placeAnswer, askAnswer, commitAnswer, openedStrip, placedStrip, listAnswers, listTries, Lent}
 use Rattle.defs.specs.Computing.Sheets.{sheetBytes, readAnswer, readOutput, writeAnswer, writeOutput}
 use Rattle.defs.specs.Computing.Lay.{layAnswer, layOutput}
@@ -573,3 +576,31 @@ third-square-bound = refl
 gap-tries : listTries 10 2 10 1 40 (piece S 1 ∷ piece S 1 ∷ piece S 1 ∷ []) ++ listTries 4 2 4 3 40 (piece S 1 ∷ piece S 1 ∷ []) ≡ 1 ∷ 2 ∷ 4 ∷ 1 ∷ 3 ∷ []
 unfolding runs
 gap-tries = refl
+
+-- The turned outline, and what is read of it vertex by vertex: (5,7) (9,8) (6,20) in each turn.
+abbrev leaning : List ℕ
+leaning = 5 ∷ 7 ∷ 9 ∷ 8 ∷ 6 ∷ 20 ∷ []
+
+abbrev readAll : List ℕ → ℕ → List ℕ
+readAll o t = outlineFrom (readX o t) (readY o t) 0 (sides o)
+
+turn-0-read : (readAll leaning 0 ≡ 0 ∷ 0 ∷ 4 ∷ 1 ∷ 1 ∷ 13 ∷ []) × (turned leaning 0 ≡ 0 ∷ 0 ∷ 4 ∷ 1 ∷ 1 ∷ 13 ∷ [])
+unfolding runs
+turn-0-read = (refl, refl)
+
+turn-1-read : (readAll leaning 1 ≡ 13 ∷ 0 ∷ 12 ∷ 4 ∷ 0 ∷ 1 ∷ []) × (turned leaning 1 ≡ 13 ∷ 0 ∷ 12 ∷ 4 ∷ 0 ∷ 1 ∷ [])
+unfolding runs
+turn-1-read = (refl, refl)
+
+turn-2-read : (readAll leaning 2 ≡ 4 ∷ 13 ∷ 0 ∷ 12 ∷ 3 ∷ 0 ∷ []) × (turned leaning 2 ≡ 4 ∷ 13 ∷ 0 ∷ 12 ∷ 3 ∷ 0 ∷ [])
+unfolding runs
+turn-2-read = (refl, refl)
+
+turn-3-read : (readAll leaning 3 ≡ 0 ∷ 4 ∷ 1 ∷ 0 ∷ 13 ∷ 3 ∷ []) × (turned leaning 3 ≡ 0 ∷ 4 ∷ 1 ∷ 0 ∷ 13 ∷ 3 ∷ [])
+unfolding runs
+turn-3-read = (refl, refl)
+
+-- Of an outline that fails 8, 10 and 11 too.
+any-read : readAll (60000 ∷ 9 ∷ 2 ∷ 65535 ∷ 60000 ∷ 9 ∷ 2 ∷ 65535 ∷ []) 1 ≡ 65526 ∷ 59998 ∷ 0 ∷ 0 ∷ 65526 ∷ 59998 ∷ 0 ∷ 0 ∷ []
+unfolding runs
+any-read = refl

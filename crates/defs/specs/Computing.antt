@@ -4,6 +4,7 @@ pub mod Cells
 pub mod Words
 pub mod Search
 pub mod Walk
+pub mod Vertices
 pub mod Calls
 pub mod Sheets
 pub mod Lay

@@ -1,7 +1,8 @@
-// Parts of the strip's calls as C functions, for tests and benchmarks.
+// Parts of the calls as C functions, for tests and benchmarks.
 
 ghost use mathlib.Core.Path.{_≡_};
 ghost use Rattle.defs.specs.Computing.Words.{wellFormedb};
+ghost use Rattle.exports.specs.Read.{vertexAnswer};
 ghost use Rattle.exports.specs.Strips.{rewriteAnswer, rewritten, decodedAnswer};
 use decode::Decoded;
 use defs::Figures;
@@ -49,4 +50,26 @@ pub extern "C" fn vikelodu_rewrite(strip: &mut [u16]) -> u64
         }
         Decoded::Ill => 5,
     }
+}
+
+// What vertexAnswer says where there is no such vertex or turn.
+const NO_VERTEX: u64 = 4294967296;
+
+// Vertex i of an outline in turn t, as it is read for cells.
+#[no_mangle]
+pub extern "C" fn vikelodu_vertex(o: &[u16], t: u16, i: u16) -> u64
+    ensures { λ r. ⌜ r ≡ vertexAnswer (now (o .entry)) t i ⌝ }
+{
+    if numbers::MOST_TURN < t {
+        return NO_VERTEX;
+    }
+    let k = i as usize;
+    if o.len() / 2 <= k {
+        return NO_VERTEX;
+    }
+    let b = outline::bounds_of(o);
+    let f = outline::frame_of(o, b, t);
+    let x = outline::x_at(o, f, k);
+    let y = outline::y_at(o, f, k);
+    65536 * y as u64 + x as u64
 }

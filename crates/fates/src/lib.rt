@@ -8,11 +8,12 @@ ghost use Rattle.defs.specs.declared.Position.{Position};
 ghost use Rattle.defs.specs.Answer.{fateWords};
 ghost use Rattle.defs.specs.Meaning.Placing.{endColumn};
 ghost use Rattle.defs.specs.Computing.Lay.{fateOf};
-ghost use Rattle.outline.specs.Vertex.{Lent};
+ghost use Rattle.outline.specs.Vertex.{Lent, BoundsOf};
 ghost use Rattle.fates.specs.Fates.{endOf, lowerBy, tallied, Few};
 use defs::Entry;
 use defs::Fate;
 use defs::Placing;
+use outline::Bounds;
 
 // The ordinal of the next piece, the pieces placed and the columns used so far, whether the second table is current, and before which
 // column no free position of a copy of the last piece ends.
@@ -47,13 +48,12 @@ pub fn put_entry(e: Entry, out: &mut [u16])
 }
 
 // One more than the last column of a piece that is placed, else 0.
-pub fn end_of(o: &[u16], r: u16, a: Placing) -> usize
-    requires { ⌜ Lent (now o) ⌝ ∗ ⌜ 1 ≤ r ⌝ ∗ ⌜ ((p : Position) → a ≡ Placing.Placed p → (p .turn ≤ 3) × (endColumn r (now o) p ≤ 4096)) ⌝ }
+pub fn end_of(o: &[u16], b: Bounds, r: u16, a: Placing) -> usize
+    requires { ⌜ Lent (now o) ⌝ ∗ ⌜ BoundsOf (now o) b ⌝ ∗ ⌜ 1 ≤ r ⌝ ∗ ⌜ ((p : Position) → a ≡ Placing.Placed p → (p .turn ≤ 3) × (endColumn r (now o) p ≤ 4096)) ⌝ }
     ensures { λ e. ⌜ e ≡ endOf r (now (o .entry)) a ⌝ }
 {
     match a {
         Placing::Placed(p) => {
-            let b = outline::bounds_of(o);
             let e = outline::extent_of(o, b, p.turn);
             p.column as usize + ranks::columns_for(e.w, r)
         }

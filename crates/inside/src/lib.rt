@@ -6,10 +6,11 @@ ghost use Prim.Native.Nat.{_≤_, _<_};
 ghost use lib.ListN.{length};
 ghost use Rattle.defs.specs.Meaning.Outline.{KeepsOrder};
 ghost use Rattle.defs.specs.Meaning.Turn.{turned, extentX};
-ghost use Rattle.outline.specs.Vertex.{Lent, BoundsOf};
+ghost use Rattle.outline.specs.Vertex.{Lent, BoundsOf, FrameOf};
 ghost use Rattle.entries.specs.Edges.{AllFit};
 ghost use Rattle.inside.specs.Cell.{LowestApart, HasCell};
 use outline::Bounds;
+use outline::Frame;
 
 // Whether the two lowest of m entries are apart.
 fn apart(h0: &[u64], h1: &[u64], w: &[u64], m: usize) -> bool
@@ -26,40 +27,32 @@ fn apart(h0: &[u64], h1: &[u64], w: &[u64], m: usize) -> bool
 }
 
 // Whether the two lowest edges of the first slab are apart: a cell is covered between them.
-fn opens(
-    o: &[u16],
-    b: Bounds,
-    t: u16,
-    wide: u16,
-    h0: &mut [u64],
-    h1: &mut [u64],
-    w: &mut [u64],
-) -> bool
-    requires { ⌜ Lent (now o) ⌝ ∗ ⌜ BoundsOf (now o) (b .left) (b .right) (b .foot) (b .head) ⌝ ∗ ⌜ (t ≤ 3) × (0 < wide) ⌝
-        ∗ ⌜ KeepsOrder (turned (now o) t) ⌝ ∗ ⌜ (length (now h0) ≡ 64) × (length (now h1) ≡ 64) × (length (now w) ≡ 64) ⌝ }
-    ensures { λ r. ⌜ (r ≡ true → HasCell (now (o .entry)) t true) ⌝ }
+fn opens(o: &[u16], f: Frame, wide: u16, h0: &mut [u64], h1: &mut [u64], w: &mut [u64]) -> bool
+    requires { ⌜ Lent (now o) ⌝ ∗ ⌜ FrameOf (now o) f ⌝ ∗ ⌜ 0 < wide ⌝
+        ∗ ⌜ KeepsOrder (turned (now o) (f .turn)) ⌝ ∗ ⌜ (length (now h0) ≡ 64) × (length (now h1) ≡ 64) × (length (now w) ≡ 64) ⌝ }
+    ensures { λ r. ⌜ (r ≡ true → HasCell (now (o .entry)) (f .turn) true) ⌝ }
 {
-    let s = section::held(o, b, t, 0, wide, cuts::none(), h0, h1, w);
+    let s = section::held(o, f, 0, wide, cuts::none(), h0, h1, w);
     apart(h0, h1, w, s.count as usize)
 }
 
 // Whether the slab at the left end of the outline, `wide` units wide, shows a cell.
-fn opens_left(o: &[u16], b: Bounds, t: u16, wide: u16) -> bool
-    requires { ⌜ Lent (now o) ⌝ ∗ ⌜ BoundsOf (now o) (b .left) (b .right) (b .foot) (b .head) ⌝ ∗ ⌜ (t ≤ 3) × (0 < wide) ⌝
-        ∗ ⌜ KeepsOrder (turned (now o) t) ⌝ }
-    ensures { λ r. ⌜ (r ≡ true → HasCell (now (o .entry)) t true) ⌝ }
+fn opens_left(o: &[u16], f: Frame, wide: u16) -> bool
+    requires { ⌜ Lent (now o) ⌝ ∗ ⌜ FrameOf (now o) f ⌝ ∗ ⌜ 0 < wide ⌝
+        ∗ ⌜ KeepsOrder (turned (now o) (f .turn)) ⌝ }
+    ensures { λ r. ⌜ (r ≡ true → HasCell (now (o .entry)) (f .turn) true) ⌝ }
 {
     let mut h0 = [0u64; numbers::MOST_VERTICES];
     let mut h1 = [0u64; numbers::MOST_VERTICES];
     let mut w = [0u64; numbers::MOST_VERTICES];
-    opens(o, b, t, wide, &mut h0, &mut h1, &mut w)
+    opens(o, f, wide, &mut h0, &mut h1, &mut w)
 }
 
-// Whether a cell is covered in turn t: all of the outline, so wide, as one column has a run.
-fn has_run(o: &[u16], b: Bounds, t: u16, wide: u16) -> bool
-    requires { ⌜ Lent (now o) ⌝ ∗ ⌜ BoundsOf (now o) (b .left) (b .right) (b .foot) (b .head) ⌝ ∗ ⌜ (t ≤ 3) × (wide ≡ extentX (now o) t) ⌝
-        ∗ ⌜ KeepsOrder (turned (now o) t) ⌝ }
-    ensures { λ r. ⌜ HasCell (now (o .entry)) t r ⌝ }
+// Whether a cell is covered in the frame's turn: all of the outline, so wide, as one column has a run.
+fn has_run(o: &[u16], f: Frame, wide: u16) -> bool
+    requires { ⌜ Lent (now o) ⌝ ∗ ⌜ FrameOf (now o) f ⌝ ∗ ⌜ wide ≡ extentX (now o) (f .turn) ⌝
+        ∗ ⌜ KeepsOrder (turned (now o) (f .turn)) ⌝ }
+    ensures { λ r. ⌜ HasCell (now (o .entry)) (f .turn) r ⌝ }
 {
     let mut h0 = [0u64; numbers::MOST_VERTICES];
     let mut h1 = [0u64; numbers::MOST_VERTICES];
@@ -68,10 +61,9 @@ fn has_run(o: &[u16], b: Bounds, t: u16, wide: u16) -> bool
     let mut g1 = [0u64; numbers::MOST_VERTICES];
     let mut lows = [0u16; numbers::RUN_ROOM];
     let mut highs = [0u16; numbers::RUN_ROOM];
-    let f = column::column(
+    let c = column::column(
         o,
-        b,
-        t,
+        f,
         0,
         wide,
         cuts::none(),
@@ -83,20 +75,21 @@ fn has_run(o: &[u16], b: Bounds, t: u16, wide: u16) -> bool
         &mut lows,
         &mut highs,
     );
-    f.runs != 0
+    c.runs != 0
 }
 
 // Whether a cell is covered in turn t. The first slab shows it for most outlines.
 pub fn has_cell(o: &[u16], b: Bounds, t: u16) -> bool
-    requires { ⌜ Lent (now o) ⌝ ∗ ⌜ BoundsOf (now o) (b .left) (b .right) (b .foot) (b .head) ⌝ ∗ ⌜ t ≤ 3 ⌝
+    requires { ⌜ Lent (now o) ⌝ ∗ ⌜ BoundsOf (now o) b ⌝ ∗ ⌜ t ≤ 3 ⌝
         ∗ ⌜ KeepsOrder (turned (now o) t) ⌝ }
     ensures { λ r. ⌜ HasCell (now (o .entry)) t r ⌝ }
 {
     let e = outline::extent_of(o, b, t);
+    let f = outline::frame_of(o, b, t);
     if 0 < e.w {
-        if opens_left(o, b, t, e.w) {
+        if opens_left(o, f, e.w) {
             return true;
         }
     }
-    has_run(o, b, t, e.w)
+    has_run(o, f, e.w)
 }

@@ -4,7 +4,7 @@ use Prim.Native.Nat.{ℕ, zero, suc, _≤_, _<_, min, max}
 use native.Mathlib.Omega.{arith}
 use native.Mathlib.Decide.{decLt}
 use Rattle.defs.specs.Meaning.Turn.{greatest}
-use Rattle.laws.proofs.Turns.{leastN, mostN}
+use Rattle.defs.specs.Computing.Vertices.{leastN, mostN}
 
 -- none of f 0 .. f n is less than their least, or greater than their greatest
 pub least-at : (f : ℕ → ℕ) (n i : ℕ) → i < suc n → leastN f n ≤ f i

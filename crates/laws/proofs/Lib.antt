@@ -7,6 +7,7 @@ pub mod Pigeonhole
 pub mod Questions
 pub mod Turns
 pub mod Extremes
+pub mod Vertices
 pub mod Order
 pub mod Walks
 pub mod Chains

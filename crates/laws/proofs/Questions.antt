@@ -14,7 +14,7 @@ use Rattle.defs.specs.Meaning.Turn.{Allows}
 use Rattle.defs.specs.Meaning.Strip.{Limits, Length}
 use Rattle.defs.specs.Meaning.Sheet.{Question1, Question2}
 use Rattle.defs.specs.Meaning.Question.{Question2Size, Question3, Question16, Question17, Question21, Question4, Question6List, Question7, Question7List, Question8, Question9, Question9Turn, Question15}
-use Rattle.defs.specs.Computing.Test.{ask, all}
+use Rattle.defs.specs.Computing.Test.{ask}
 use Rattle.defs.specs.Computing.Cells.{allowedb}
 use Rattle.defs.specs.Computing.Words.{widthb, resolutionb, columnsb, gapb, limitsb, limitsNo, figuresNo, recordsOf, lengthb}
 use Rattle.defs.specs.Computing.Calls.{q7b, q8b, q9b}

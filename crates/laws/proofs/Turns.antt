@@ -9,6 +9,7 @@ use lib.Dec.{leb, T, leb→le, nleb→lt}
 use lib.ListN.{getD}
 use Rattle.defs.specs.Meaning.Outline.{vx, vy, sides}
 use Rattle.defs.specs.Meaning.Turn.{Whole, whole, negative, lesser, above, quarters, sent, least, outlineFrom, turned}
+use Rattle.defs.specs.Computing.Vertices.{leastN, mostN, leftOf, rightOf, footOf, headOf}
 
 -- vertex i of an outline given by two functions
 vertex-x : (f g : ℕ → ℕ) (k n i : ℕ) → i < n → getD (outlineFrom f g k n) (2 * i) 0 ≡ f (k + i)
@@ -28,15 +29,6 @@ vertex-y f g k (suc n) (suc i) h =
     let e : 2 * suc i + 1 ≡ suc (suc (2 * i + 1)) = omega arith in
     ap (λ (a : ℕ). getD (f k ∷ (g k ∷ outlineFrom f g (suc k) n)) a 0) e ∙
     vertex-y f g (suc k) n i (omega arith) ∙ ap g (omega arith)
-
--- the least and the greatest of f 0 .. f n
-unfoldable pub leastN : (ℕ → ℕ) → ℕ → ℕ
-leastN f zero = f zero
-leastN f (suc n) = min (leastN f n) (f (suc n))
-
-unfoldable pub mostN : (ℕ → ℕ) → ℕ → ℕ
-mostN f zero = f zero
-mostN f (suc n) = max (mostN f n) (f (suc n))
 
 lesser-whole : (a b : ℕ) → lesser (whole a) (whole b) ≡ whole (min a b)
 lesser-whole a b = go (leb (a + 0) (b + 0)) refl
@@ -79,46 +71,34 @@ pub at-y : (f g : ℕ → ℕ) (n i : ℕ) → i < n → getD (outlineFrom f g 0
 at-y f g n i h = vertex-y f g 0 n i h ∙ ap g (omega arith)
 
 module _ (o : List ℕ) (i : ℕ) (h : i < sides o) where
-  abbrev x₀ : ℕ
-  x₀ = leastN (vx o) (sides o - 1)
-
-  abbrev x₁ : ℕ
-  x₁ = mostN (vx o) (sides o - 1)
-
-  abbrev y₀ : ℕ
-  y₀ = leastN (vy o) (sides o - 1)
-
-  abbrev y₁ : ℕ
-  y₁ = mostN (vy o) (sides o - 1)
-
-  pub turn-0-x : vx (turned o 0) i ≡ vx o i - x₀
+  pub turn-0-x : vx (turned o 0) i ≡ vx o i - leftOf o
   unfolding turned sent quarters
   turn-0-x = at-x _ _ (sides o) i h ∙ shifted (vx o) (sides o - 1) i
 
-  pub turn-0-y : vy (turned o 0) i ≡ vy o i - y₀
+  pub turn-0-y : vy (turned o 0) i ≡ vy o i - footOf o
   unfolding turned sent quarters
   turn-0-y = at-y _ _ (sides o) i h ∙ shifted (vy o) (sides o - 1) i
 
-  pub turn-1-x : vx (turned o 1) i ≡ y₁ - vy o i
+  pub turn-1-x : vx (turned o 1) i ≡ headOf o - vy o i
   unfolding turned sent quarters
   turn-1-x = at-x _ _ (sides o) i h ∙ shifted-negative (vy o) (sides o - 1) i
 
-  pub turn-1-y : vy (turned o 1) i ≡ vx o i - x₀
+  pub turn-1-y : vy (turned o 1) i ≡ vx o i - leftOf o
   unfolding turned sent quarters
   turn-1-y = at-y _ _ (sides o) i h ∙ shifted (vx o) (sides o - 1) i
 
-  pub turn-2-x : vx (turned o 2) i ≡ x₁ - vx o i
+  pub turn-2-x : vx (turned o 2) i ≡ rightOf o - vx o i
   unfolding turned sent quarters
   turn-2-x = at-x _ _ (sides o) i h ∙ shifted-negative (vx o) (sides o - 1) i
 
-  pub turn-2-y : vy (turned o 2) i ≡ y₁ - vy o i
+  pub turn-2-y : vy (turned o 2) i ≡ headOf o - vy o i
   unfolding turned sent quarters
   turn-2-y = at-y _ _ (sides o) i h ∙ shifted-negative (vy o) (sides o - 1) i
 
-  pub turn-3-x : vx (turned o 3) i ≡ vy o i - y₀
+  pub turn-3-x : vx (turned o 3) i ≡ vy o i - footOf o
   unfolding turned sent quarters
   turn-3-x = at-x _ _ (sides o) i h ∙ shifted (vy o) (sides o - 1) i
 
-  pub turn-3-y : vy (turned o 3) i ≡ x₁ - vx o i
+  pub turn-3-y : vy (turned o 3) i ≡ rightOf o - vx o i
   unfolding turned sent quarters
   turn-3-y = at-y _ _ (sides o) i h ∙ shifted-negative (vx o) (sides o - 1) i

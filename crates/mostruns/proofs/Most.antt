@@ -14,7 +14,8 @@ use Rattle.defs.specs.Computing.Cells.{pieceRuns, countRuns, allowedb, mostRuns
 use Rattle.defs.specs.Computing.Calls.{q12b}
 use Rattle.laws.proofs.Questions.{allowed}
 use Rattle.laws.proofs.Extremes.{most-limit, greatest-limit}
-use Rattle.laws.proofs.Turns.{mostN, turn-0-x, turn-1-x, turn-2-x, turn-3-x}
+use Rattle.defs.specs.Computing.Vertices.{mostN}
+use Rattle.laws.proofs.Turns.{turn-0-x, turn-1-x, turn-2-x, turn-3-x}
 use Rattle.geom.proofs.Checks.{has-side, question-12}
 use Rattle.mostruns.proofs.Bound.{runs-bound}
 

@@ -2,6 +2,7 @@
 
 ghost use Prim.Native.Nat.{_≤_};
 ghost use lib.ListN.{length};
+use checks::Checked;
 use defs::EdgePair;
 use defs::Retracing;
 use outline::Side;
@@ -17,12 +18,6 @@ fn edge_numbered(o: &[u16], k: u16) -> Side {
         xr: 0,
         yr: 0,
     };
-    if !checks::seven(o) {
-        return none;
-    }
-    if !checks::eight(o) {
-        return none;
-    }
     let i = k as usize;
     if i < 1 {
         return none;
@@ -30,7 +25,10 @@ fn edge_numbered(o: &[u16], k: u16) -> Side {
     if o.len() / 2 < i {
         return none;
     }
-    retrace::edge(o, i - 1)
+    match checks::bounds(o) {
+        Checked::No(_) => none,
+        Checked::Passes(_) => retrace::edge(o, i - 1),
+    }
 }
 
 // The stretch that two edges of an outline share.

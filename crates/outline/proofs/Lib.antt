@@ -1,3 +1,3 @@
+pub mod Limit
 pub mod Vertices
 pub mod Extents
-pub mod Limit

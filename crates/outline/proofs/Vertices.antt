@@ -2,20 +2,21 @@
 -- Assumes nothing.
 use mathlib.Core.Path.{_≡_, refl, ap, ap₂, sym, subst, _∙_}
 use mathlib.Core.Bool.{Bool, true, false, cond}
-use mathlib.Core.Logic.{⊎-elim}
 use mathlib.Core.List.{List}
-use Prim.Native.Nat.{ℕ, suc, _+_, _*_, _-_, _≤_, _<_, min, max}
+use Prim.Native.Nat.{ℕ, suc, _+_, _*_, _-_, _%_, _≤_, _<_, min, max}
 use native.Mathlib.Omega.{arith}
 use lib.ListN.{getD}
 use lib.Dec.{leb}
 use borrow.Author.Tests.{leb-true, leb-false, ne-eqb}
-use Rattle.defs.specs.Meaning.Outline.{vx, vy, sides, after, Edge, edgeAt, edgeBetween}
-use Rattle.defs.specs.Meaning.Turn.{turned}
-use Rattle.laws.proofs.Extremes.{least-at, most-at, most-limit}
-use Rattle.laws.proofs.Turns.{leastN, mostN, turn-0-x, turn-0-y, turn-1-x, turn-1-y, turn-2-x, turn-2-y, turn-3-x, turn-3-y}
+use Rattle.defs.specs.Meaning.Outline.{vx, vy, sides, after, Edge, edgeAt, edgeBetween, KeepsOrder}
+use Rattle.defs.specs.Meaning.Turn.{turned, extentX}
+use Rattle.defs.specs.Computing.Vertices.{leastN, mostN, cornerX, cornerY, distance, readX, readY}
+use Rattle.laws.proofs.Vertices.{read-x, read-y}
 use Rattle.geom.proofs.Extent.{sides-turned}
-use Rattle.geom.proofs.Strip.{lt-or-le}
-use Rattle.outline.specs.Vertex.{Lent, BoundsOf, FrameOf, Distance, VertexOf, SideOf, Small, edgeOf}
+use Rattle.outline.specs.Vertex.{Lent, BoundsOf, FrameOf, VertexOf, SideOf, Small, edgeOf}
+use Rattle.outline.specs.declared.Bounds.{Bounds}
+use Rattle.outline.specs.declared.Frame.{Frame}
+use Rattle.outline.proofs.Limit.{vertex-limit}
 
 pub least-one : (f : ℕ → ℕ) → f 0 ≡ leastN f (1 - 1)
 unfolding leastN
@@ -39,123 +40,53 @@ most-more {a} f i h p q =
     let g : suc (i - 1) ≡ i = omega arith in
     q ∙ ap (λ (m : ℕ). max m (f i)) p ∙ sym (ap (mostN f) e ∙ ap (λ (x : ℕ). max (mostN f (i - 1)) (f x)) g)
 
-module _ {o : List ℕ} {l r f h : ℕ} (k : Lent o) (b : BoundsOf o l r f h) where
-  pub x-least : (i : ℕ) → i < sides o → l ≤ vx o i
-  x-least i s = omega (arith, b .left, least-at (vx o) (sides o - 1) i (omega arith))
+-- the frame of a turn, by the corner that the turn takes to (0, 0)
+pub frame-at : {o : List ℕ} {t x y w : ℕ} (n : ℕ) → t ≡ n → n ≤ 3 → x ≡ cornerX o n → y ≡ cornerY o n → w ≡ t % 2 →
+    FrameOf o (record { turn = t; x = x; y = y; word = w })
+frame-at {o} n e m ex ey word =
+    record { turn = omega arith; x = ex ∙ ap (cornerX o) (sym e); y = ey ∙ ap (cornerY o) (sym e); word = word }
 
-  pub y-least : (i : ℕ) → i < sides o → f ≤ vy o i
-  y-least i s = omega (arith, b .foot, least-at (vy o) (sides o - 1) i (omega arith))
+-- what is read by a frame
+module _ {o : List ℕ} {f : Frame} (k : FrameOf o f) (i : ℕ) where
+  word : (c : ℕ) {a b : ℕ} → a ≡ b → distance c (getD o a 0) ≡ distance c (getD o b 0)
+  word c e = ap (λ (a : ℕ). distance c (getD o a 0)) e
 
-  pub x-most : (i : ℕ) → i < sides o → vx o i ≤ r
-  x-most i s = omega (arith, b .right, most-at (vx o) (sides o - 1) i (omega arith))
+  pub reads-x : {r : ℕ} → r ≡ distance (f .x) (getD o (2 * i + f .word) 0) → r ≡ readX o (f .turn) i
+  unfolding readX
+  reads-x e = e ∙ ap (λ (c : ℕ). distance c (getD o (2 * i + f .word) 0)) (k .x) ∙ word _ (omega (arith, k .word))
 
-  pub y-most : (i : ℕ) → i < sides o → vy o i ≤ h
-  y-most i s = omega (arith, b .head, most-at (vy o) (sides o - 1) i (omega arith))
+  pub reads-y : {r : ℕ} → r ≡ distance (f .y) (getD o (2 * i + (1 - f .word)) 0) → r ≡ readY o (f .turn) i
+  unfolding readY
+  reads-y e = e ∙ ap (λ (c : ℕ). distance c (getD o (2 * i + (1 - f .word)) 0)) (k .y) ∙ word _ (omega (arith, k .word))
 
-  pub right-limit : r ≤ 16000
-  right-limit = omega (arith, b .right, most-limit (vx o) (sides o - 1) 16000 (λ i _. k .small (2 * i)))
+-- what is read is the vertex of the turned outline
+pub turned-x : {o : List ℕ} {f : Frame} {i x : ℕ} → FrameOf o f → i < sides o → x ≡ readX o (f .turn) i → x ≡ vx (turned o (f .turn)) i
+turned-x {o} {f} {i} k s e = e ∙ read-x o i s (f .turn) (k .turn)
 
-  pub head-limit : h ≤ 16000
-  head-limit = omega (arith, b .head, most-limit (vy o) (sides o - 1) 16000 (λ i _. k .small (2 * i + 1)))
+-- a vertex by its x, known before, and what is read of its y
+pub vertex-from : {o : List ℕ} {t i x y : ℕ} → Lent o → t ≤ 3 → i < sides o → x ≡ vx (turned o t) i → y ≡ readY o t i → VertexOf o t i x y
+vertex-from {o} {t} {i} lent turn s across e =
+    let l = vertex-limit lent t turn i s in
+    let up = e ∙ read-y o i s t turn in
+    record { across = across; up = up; x-most = omega (arith, across, l .0); y-most = omega (arith, up, l .1) }
 
-  module _ (t i : ℕ) (s : i < sides o) where
-    pub vertex-0 : t ≡ 0 → VertexOf o t i (vx o i - l) (vy o i - f)
-    vertex-0 e =
-        record {
-          across = ap (λ (m : ℕ). vx o i - m) (b .left) ∙ sym (turn-0-x o i s) ∙ ap (λ (t : ℕ). vx (turned o t) i) (sym e);
-          up = ap (λ (m : ℕ). vy o i - m) (b .foot) ∙ sym (turn-0-y o i s) ∙ ap (λ (t : ℕ). vy (turned o t) i) (sym e);
-          x-most = omega (arith, k .small (2 * i));
-          y-most = omega (arith, k .small (2 * i + 1));
-        }
+pub vertex-read : {o : List ℕ} {f : Frame} {i x y : ℕ} → Lent o → FrameOf o f → i < sides o → x ≡ readX o (f .turn) i →
+    y ≡ readY o (f .turn) i → VertexOf o (f .turn) i x y
+vertex-read lent k s e = vertex-from lent (k .turn) s (turned-x k s e)
 
-    pub vertex-1 : t ≡ 1 → VertexOf o t i (h - vy o i) (vx o i - l)
-    vertex-1 e =
-        record {
-          across = ap (λ (m : ℕ). m - vy o i) (b .head) ∙ sym (turn-1-x o i s) ∙ ap (λ (t : ℕ). vx (turned o t) i) (sym e);
-          up = ap (λ (m : ℕ). vx o i - m) (b .left) ∙ sym (turn-1-y o i s) ∙ ap (λ (t : ℕ). vy (turned o t) i) (sym e);
-          x-most = omega (arith, head-limit);
-          y-most = omega (arith, k .small (2 * i));
-        }
+-- what is known of turn t, in the frame's words
+pub keeps-in : {o : List ℕ} {s t : ℕ} → Lent o → s ≡ t → KeepsOrder (turned o t) → KeepsOrder (turned o s)
+keeps-in {o} lent e k = subst (λ (t : ℕ). KeepsOrder (turned o t)) (sym e) k
 
-    pub vertex-2 : t ≡ 2 → VertexOf o t i (r - vx o i) (h - vy o i)
-    vertex-2 e =
-        record {
-          across = ap (λ (m : ℕ). m - vx o i) (b .right) ∙ sym (turn-2-x o i s) ∙ ap (λ (t : ℕ). vx (turned o t) i) (sym e);
-          up = ap (λ (m : ℕ). m - vy o i) (b .head) ∙ sym (turn-2-y o i s) ∙ ap (λ (t : ℕ). vy (turned o t) i) (sym e);
-          x-most = omega (arith, right-limit);
-          y-most = omega (arith, head-limit);
-        }
-
-    pub vertex-3 : t ≡ 3 → VertexOf o t i (vy o i - f) (r - vx o i)
-    vertex-3 e =
-        record {
-          across = ap (λ (m : ℕ). vy o i - m) (b .foot) ∙ sym (turn-3-x o i s) ∙ ap (λ (t : ℕ). vx (turned o t) i) (sym e);
-          up = ap (λ (m : ℕ). m - vx o i) (b .right) ∙ sym (turn-3-y o i s) ∙ ap (λ (t : ℕ). vy (turned o t) i) (sym e);
-          x-most = omega (arith, k .small (2 * i + 1));
-          y-most = omega (arith, right-limit);
-        }
-
-  -- a vertex by its distances from the frame's corner
-  module _ (t i s : ℕ) (n : i < sides o) {cx cy x y : ℕ} (c : FrameOf l r f h t cx cy s)
-      (dx : Distance cx (getD o (2 * i + s) 0) x) (dy : Distance cy (getD o (2 * i + (1 - s)) 0) y) where
-    word : {a b : ℕ} → a ≡ b → getD o a 0 ≡ getD o b 0
-    word q = ap (λ (k : ℕ). getD o k 0) q
-
-    by : {u v : ℕ} → VertexOf o t i u v → x ≡ u → y ≡ v → VertexOf o t i x y
-    by {u} {v} z ex ey = rw (ex, ey) z
-
-    at-0 : t ≡ 0 → VertexOf o t i x y
-    at-0 q =
-        let z = c .turn-0 q in
-        let u : getD o (2 * i + s) 0 ≡ vx o i = word (omega (arith, z .2)) in
-        let v : getD o (2 * i + (1 - s)) 0 ≡ vy o i = word (omega (arith, z .2)) in
-        let p = x-least i n in
-        let w = y-least i n in
-        let ex = dx .up (omega (arith, z .0)) in
-        let ey = dy .up (omega (arith, z .1)) in
-        by (vertex-0 t i n q) (omega (arith, z .0)) (omega (arith, z .1))
-
-    at-1 : t ≡ 1 → VertexOf o t i x y
-    at-1 q =
-        let z = c .turn-1 q in
-        let u : getD o (2 * i + s) 0 ≡ vy o i = word (omega (arith, z .2)) in
-        let v : getD o (2 * i + (1 - s)) 0 ≡ vx o i = word (omega (arith, z .2)) in
-        let p = y-most i n in
-        let w = x-least i n in
-        let ex = dx .down (omega (arith, z .0)) in
-        let ey = dy .up (omega (arith, z .1)) in
-        by (vertex-1 t i n q) (omega (arith, z .0)) (omega (arith, z .1))
-
-    at-2 : t ≡ 2 → VertexOf o t i x y
-    at-2 q =
-        let z = c .turn-2 q in
-        let u : getD o (2 * i + s) 0 ≡ vx o i = word (omega (arith, z .2)) in
-        let v : getD o (2 * i + (1 - s)) 0 ≡ vy o i = word (omega (arith, z .2)) in
-        let p = x-most i n in
-        let w = y-most i n in
-        let ex = dx .down (omega (arith, z .0)) in
-        let ey = dy .down (omega (arith, z .1)) in
-        by (vertex-2 t i n q) (omega (arith, z .0)) (omega (arith, z .1))
-
-    at-3 : t ≡ 3 → VertexOf o t i x y
-    at-3 q =
-        let z = c .turn-3 q in
-        let u : getD o (2 * i + s) 0 ≡ vy o i = word (omega (arith, z .2)) in
-        let v : getD o (2 * i + (1 - s)) 0 ≡ vx o i = word (omega (arith, z .2)) in
-        let p = y-least i n in
-        let w = x-most i n in
-        let ex = dx .up (omega (arith, z .0)) in
-        let ey = dy .down (omega (arith, z .1)) in
-        by (vertex-3 t i n q) (omega (arith, z .0)) (omega (arith, z .1))
-
-    pub frame-vertex : t ≤ 3 → VertexOf o t i x y
-    frame-vertex m =
-        ⊎-elim (λ p. ⊎-elim (λ q. at-0 (omega arith)) (λ q. at-1 (omega arith)) (lt-or-le t 1))
-        (λ p. ⊎-elim (λ q. at-2 (omega arith)) (λ q. at-3 (omega arith)) (lt-or-le t 3)) (lt-or-le t 2)
+pub extent-in : {o : List ℕ} {s t w : ℕ} → Lent o → s ≡ t → w ≡ extentX o t → w ≡ extentX o s
+extent-in {o} lent e h = h ∙ ap (extentX o) (sym e)
 
 -- the vertex after i, if i is not the last, is vertex i + 1
 pub after-is : (n i : ℕ) → i + 1 < n → i + 1 ≡ after n i
 after-is n i h = sym (ap (λ (b : Bool). cond b 0 (i + 1)) (ne-eqb (i + 1) n (omega arith)))
+
+pub vertex-after : {o : List ℕ} {t j x y : ℕ} (n i : ℕ) → j ≡ after n i → VertexOf o t j x y → i + 1 < n → VertexOf o t (i + 1) x y
+vertex-after {o} {t} {x = x} {y = y} n i e v h = subst (λ (k : ℕ). VertexOf o t k x y) (e ∙ sym (after-is n i h)) v
 
 -- In either order of its ends an edge is within the limits.
 pub small-edge : (xa ya xb yb : ℕ) → xa ≤ 16000 → ya ≤ 16000 → xb ≤ 16000 → yb ≤ 16000 → {xl yl xr yr : ℕ} →
@@ -171,9 +102,9 @@ small-edge xa ya xb yb ax ay bx by' e = subst Fits (sym e) (ends-fit (leb xa xb)
 
 -- edge i by its ends
 module _ {o : List ℕ} {t i j xa ya xb yb : ℕ} (hj : j ≡ after (sides o) i) (u : VertexOf o t i xa ya) (v : VertexOf o t j xb yb) where
-  same : edgeAt (turned o t) i ≡ edgeBetween xa ya xb yb
+  pub edge-is : edgeAt (turned o t) i ≡ edgeBetween xa ya xb yb
   unfolding edgeAt
-  same =
+  edge-is =
       ap (λ (n : ℕ). edgeBetween (vx (turned o t) i) (vy (turned o t) i) (vx (turned o t) (after n i)) (vy (turned o t) (after n i))) (sides-turned o t)
       ∙ ap (λ (j : ℕ). edgeBetween (vx (turned o t) i) (vy (turned o t) i) (vx (turned o t) j) (vy (turned o t) j)) (sym hj)
       ∙ ap₂ (λ (x y : ℕ). edgeBetween x y (vx (turned o t) j) (vy (turned o t) j)) (sym (u .across)) (sym (u .up))
@@ -182,17 +113,18 @@ module _ {o : List ℕ} {t i j xa ya xb yb : ℕ} (hj : j ≡ after (sides o) i)
   pub side-between : {xl yl xr yr : ℕ} → edgeOf xl yl xr yr ≡ edgeBetween xa ya xb yb → SideOf o t i xl yl xr yr
   side-between e =
       let s = small-edge xa ya xb yb (u .x-most) (u .y-most) (v .x-most) (v .y-most) e in
-      record { is = e ∙ sym same; order = s .order; right-most = s .right-most; yl-most = s .yl-most; yr-most = s .yr-most }
+      record { is = e ∙ sym edge-is; order = s .order; right-most = s .right-most; yl-most = s .yl-most; yr-most = s .yr-most }
 
 -- the edge from vertex i to vertex i + 1
 pub side-next : {o : List ℕ} {t i xa ya xb yb xl yl xr yr : ℕ} → i + 1 < sides o → VertexOf o t i xa ya → VertexOf o t (i + 1) xb yb → edgeOf xl yl xr yr ≡ edgeBetween xa ya xb yb → SideOf o t i xl yl xr yr
 side-next {o} {t} {i} h u v e = side-between (after-is (sides o) i h) u v e
 
-pub all-bounds : (o : List ℕ) {i l r f h : ℕ} → i ≡ sides o → l ≡ leastN (vx o) (i - 1) → r ≡ mostN (vx o) (i - 1) → f ≡ leastN (vy o) (i - 1) → h ≡ mostN (vy o) (i - 1) → BoundsOf o l r f h
-all-bounds o e a b c d =
+pub all-bounds : (o : List ℕ) {i : ℕ} {b : Bounds} → i ≡ sides o → b .left ≡ leastN (vx o) (i - 1) → b .right ≡ mostN (vx o) (i - 1) →
+    b .foot ≡ leastN (vy o) (i - 1) → b .head ≡ mostN (vy o) (i - 1) → BoundsOf o b
+all-bounds o e l r f h =
     record {
-      left = a ∙ ap (λ (n : ℕ). leastN (vx o) (n - 1)) e;
-      right = b ∙ ap (λ (n : ℕ). mostN (vx o) (n - 1)) e;
-      foot = c ∙ ap (λ (n : ℕ). leastN (vy o) (n - 1)) e;
-      head = d ∙ ap (λ (n : ℕ). mostN (vy o) (n - 1)) e;
+      left = l ∙ ap (λ (n : ℕ). leastN (vx o) (n - 1)) e;
+      right = r ∙ ap (λ (n : ℕ). mostN (vx o) (n - 1)) e;
+      foot = f ∙ ap (λ (n : ℕ). leastN (vy o) (n - 1)) e;
+      head = h ∙ ap (λ (n : ℕ). mostN (vy o) (n - 1)) e;
     }

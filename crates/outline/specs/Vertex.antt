@@ -2,11 +2,13 @@
 -- Assumes nothing.
 use mathlib.Core.Path.{_≡_}
 use mathlib.Core.List.{List}
-use Prim.Native.Nat.{ℕ, _*_, _-_, _≤_}
+use Prim.Native.Nat.{ℕ, _*_, _%_, _≤_}
 use lib.ListN.{length, getD}
 use Rattle.defs.specs.Meaning.Outline.{vx, vy, sides, Edge, edgeAt}
 use Rattle.defs.specs.Meaning.Turn.{turned}
-use Rattle.laws.proofs.Turns.{leastN, mostN}
+use Rattle.defs.specs.Computing.Vertices.{leftOf, rightOf, footOf, headOf, cornerX, cornerY}
+use Rattle.outline.specs.declared.Bounds.{Bounds}
+use Rattle.outline.specs.declared.Frame.{Frame}
 
 -- An outline that passes 7 and 8.
 pub record Lent (o : List ℕ) : Type 0 where
@@ -15,26 +17,20 @@ pub record Lent (o : List ℕ) : Type 0 where
   pub few : sides o ≤ 64
   pub small : (i : ℕ) → getD o i 0 ≤ 16000
 
--- the least and the greatest x and y
-pub record BoundsOf (o : List ℕ) (x₀ x₁ y₀ y₁ : ℕ) : Type 0 where
-  pub left : x₀ ≡ leastN (vx o) (sides o - 1)
-  pub right : x₁ ≡ mostN (vx o) (sides o - 1)
-  pub foot : y₀ ≡ leastN (vy o) (sides o - 1)
-  pub head : y₁ ≡ mostN (vy o) (sides o - 1)
+pub record BoundsOf (o : List ℕ) (b : Bounds) : Type 0 where
+  pub left : b .left ≡ leftOf o
+  pub right : b .right ≡ rightOf o
+  pub foot : b .foot ≡ footOf o
+  pub head : b .head ≡ headOf o
 
--- the corner of the bounds l, r, f, h that turn t takes to (0, 0), and which word of a vertex lies across
-pub record FrameOf (l r f h t x y s : ℕ) : Type 0 where
-  pub most : s ≤ 1
-  pub turn-0 : t ≡ 0 → (x ≡ l) × (y ≡ f) × (s ≡ 0)
-  pub turn-1 : t ≡ 1 → (x ≡ h) × (y ≡ l) × (s ≡ 1)
-  pub turn-2 : t ≡ 2 → (x ≡ r) × (y ≡ h) × (s ≡ 0)
-  pub turn-3 : t ≡ 3 → (x ≡ f) × (y ≡ r) × (s ≡ 1)
+-- how the frame's turn reads the outline: the corner of the bounds that it takes to (0, 0), and which word of a vertex lies across
+pub record FrameOf (o : List ℕ) (f : Frame) : Type 0 where
+  pub turn : f .turn ≤ 3
+  pub x : f .x ≡ cornerX o (f .turn)
+  pub y : f .y ≡ cornerY o (f .turn)
+  pub word : f .word ≡ f .turn % 2
 
-pub record Distance (a b r : ℕ) : Type 0 where
-  pub up : a ≤ b → r ≡ b - a
-  pub down : b ≤ a → r ≡ a - b
-
--- vertex i of the turned outline
+-- vertex i of the turned outline, within the limits
 pub record VertexOf (o : List ℕ) (t i x y : ℕ) : Type 0 where
   pub across : x ≡ vx (turned o t) i
   pub up : y ≡ vy (turned o t) i

@@ -1,10 +1,11 @@
-// The outline: bounds, extents, vertices and edges, read through the turn.
+// The outline: bounds, extents, vertices and edges, read through the turn. No turned outline is stored.
 
 ghost use mathlib.Core.Path.{_≡_};
 ghost use Prim.Native.Nat.{_≤_, _<_};
 ghost use Rattle.defs.specs.Meaning.Outline.{sides, after, edgeBetween};
 ghost use Rattle.defs.specs.Meaning.Turn.{extentX, extentY};
-ghost use Rattle.outline.specs.Vertex.{Lent, BoundsOf, FrameOf, Distance, VertexOf, SideOf, edgeOf};
+ghost use Rattle.defs.specs.Computing.Vertices.{distance, readX, readY};
+ghost use Rattle.outline.specs.Vertex.{Lent, BoundsOf, FrameOf, VertexOf, SideOf, edgeOf};
 
 // The least and the greatest x and y of an outline.
 pub struct Bounds {
@@ -25,11 +26,13 @@ pub struct Vertex {
     pub y: u16,
 }
 
-// How a turn reads a vertex: its distances from the corner of the bounds that the turn takes to (0, 0), x by its first or second word.
+// How a turn reads a vertex: its distances from the corner (x, y) of the bounds that the turn takes to (0, 0), x by its first word (0) or
+// its second (1). Four words of 16 bits, so that one register holds it.
 pub struct Frame {
+    pub turn: u16,
     pub x: u16,
     pub y: u16,
-    pub first: usize,
+    pub word: u16,
 }
 
 // An edge, the left end first.
@@ -40,10 +43,10 @@ pub struct Side {
     pub yr: u16,
 }
 
-// The bounds of an outline.
+// The bounds of an outline that has a vertex.
 pub fn bounds_of(o: &[u16]) -> Bounds
-    requires { ⌜ Lent (now o) ⌝ }
-    ensures { λ r. ⌜ BoundsOf (now (o .entry)) (r .left) (r .right) (r .foot) (r .head) ⌝ }
+    requires { ⌜ 1 ≤ sides (now o) ⌝ }
+    ensures { λ b. ⌜ BoundsOf (now (o .entry)) b ⌝ }
 {
     let n = o.len() / 2;
     let mut x0 = o[0];
@@ -70,7 +73,7 @@ pub fn bounds_of(o: &[u16]) -> Bounds
 
 // The extent of the outline in turn t, by its bounds; the contract names the outline.
 pub fn extent_of(o: &[u16], b: Bounds, t: u16) -> Extent
-    requires { ⌜ Lent (now o) ⌝ ∗ ⌜ BoundsOf (now o) (b .left) (b .right) (b .foot) (b .head) ⌝ ∗ ⌜ t ≤ 3 ⌝ }
+    requires { ⌜ 1 ≤ sides (now o) ⌝ ∗ ⌜ BoundsOf (now o) b ⌝ ∗ ⌜ t ≤ 3 ⌝ }
     ensures { λ r. ⌜ (r .w ≡ extentX (now (o .entry)) t) × (r .h ≡ extentY (now (o .entry)) t) ⌝ }
 {
     let across = b.right - b.left;
@@ -82,67 +85,78 @@ pub fn extent_of(o: &[u16], b: Bounds, t: u16) -> Extent
     }
 }
 
-// The frame of turn t.
-pub fn frame_of(b: Bounds, t: u16) -> Frame
-    requires { ⌜ t ≤ 3 ⌝ }
-    ensures { λ r. ⌜ FrameOf (b .left) (b .right) (b .foot) (b .head) t (r .x) (r .y) (r .first) ⌝ }
+// The frame of turn t; the contract names the outline.
+pub fn frame_of(o: &[u16], b: Bounds, t: u16) -> Frame
+    requires { ⌜ BoundsOf (now o) b ⌝ ∗ ⌜ t ≤ 3 ⌝ }
+    ensures { λ f. ⌜ (f .turn ≡ t) × FrameOf (now (o .entry)) f ⌝ }
 {
+    let word = t % 2;
     if t < 2 {
         if t == 0 {
             Frame {
+                turn: t,
                 x: b.left,
                 y: b.foot,
-                first: 0,
+                word: word,
             }
         } else {
             Frame {
+                turn: t,
                 x: b.head,
                 y: b.left,
-                first: 1,
+                word: word,
             }
         }
     } else {
         if t == 2 {
             Frame {
+                turn: t,
                 x: b.right,
                 y: b.head,
-                first: 0,
+                word: word,
             }
         } else {
             Frame {
+                turn: t,
                 x: b.foot,
                 y: b.right,
-                first: 1,
+                word: word,
             }
         }
     }
 }
 
 // How far two numbers are apart.
-fn distance(a: u16, b: u16) -> u16
-    ensures { λ r. ⌜ Distance a b r ⌝ }
+fn apart(a: u16, b: u16) -> u16
+    ensures { λ r. ⌜ r ≡ distance a b ⌝ }
 {
     if a < b { b - a } else { a - b }
 }
 
-// Vertex i of the outline in turn t, whose frame is f: how far it is from the corner. The contract names the bounds and the turn.
-pub fn vertex_in(o: &[u16], b: Bounds, t: u16, f: Frame, i: usize) -> Vertex
-    requires { ⌜ Lent (now o) ⌝ ∗ ⌜ BoundsOf (now o) (b .left) (b .right) (b .foot) (b .head) ⌝ ∗ ⌜ (t ≤ 3) × (i < sides (now o)) ⌝
-        ∗ ⌜ FrameOf (b .left) (b .right) (b .foot) (b .head) t (f .x) (f .y) (f .first) ⌝ }
-    ensures { λ r. ⌜ VertexOf (now (o .entry)) t i (r .x) (r .y) ⌝ }
+// x of vertex i in the frame's turn: how far its word is from the corner.
+pub fn x_at(o: &[u16], f: Frame, i: usize) -> u16
+    requires { ⌜ FrameOf (now o) f ⌝ ∗ ⌜ i < sides (now o) ⌝ }
+    ensures { λ r. ⌜ r ≡ readX (now (o .entry)) (f .turn) i ⌝ }
 {
-    let s = f.first;
-    let x = distance(f.x, o[2 * i + s]);
-    let y = distance(f.y, o[2 * i + (1 - s)]);
-    Vertex { x: x, y: y }
+    apart(f.x, o[2 * i + f.word as usize])
 }
 
-// Vertex i of the outline in turn t.
-pub fn vertex_at(o: &[u16], b: Bounds, t: u16, i: usize) -> Vertex
-    requires { ⌜ Lent (now o) ⌝ ∗ ⌜ BoundsOf (now o) (b .left) (b .right) (b .foot) (b .head) ⌝ ∗ ⌜ (t ≤ 3) × (i < sides (now o)) ⌝ }
-    ensures { λ r. ⌜ VertexOf (now (o .entry)) t i (r .x) (r .y) ⌝ }
+// y of vertex i, by its other word.
+pub fn y_at(o: &[u16], f: Frame, i: usize) -> u16
+    requires { ⌜ FrameOf (now o) f ⌝ ∗ ⌜ i < sides (now o) ⌝ }
+    ensures { λ r. ⌜ r ≡ readY (now (o .entry)) (f .turn) i ⌝ }
 {
-    vertex_in(o, b, t, frame_of(b, t), i)
+    apart(f.y, o[2 * i + (1 - f.word as usize)])
+}
+
+// Vertex i of the outline in the frame's turn.
+pub fn vertex_at(o: &[u16], f: Frame, i: usize) -> Vertex
+    requires { ⌜ Lent (now o) ⌝ ∗ ⌜ FrameOf (now o) f ⌝ ∗ ⌜ i < sides (now o) ⌝ }
+    ensures { λ r. ⌜ VertexOf (now (o .entry)) (f .turn) i (r .x) (r .y) ⌝ }
+{
+    let x = x_at(o, f, i);
+    let y = y_at(o, f, i);
+    Vertex { x: x, y: y }
 }
 
 // The vertex after i.
@@ -177,13 +191,13 @@ pub fn side_of(u: Vertex, v: Vertex) -> Side
     }
 }
 
-// Edge i of the outline in turn t.
-pub fn side_at(o: &[u16], b: Bounds, t: u16, i: usize) -> Side
-    requires { ⌜ Lent (now o) ⌝ ∗ ⌜ BoundsOf (now o) (b .left) (b .right) (b .foot) (b .head) ⌝ ∗ ⌜ (t ≤ 3) × (i < sides (now o)) ⌝ }
-    ensures { λ r. ⌜ SideOf (now (o .entry)) t i (r .xl) (r .yl) (r .xr) (r .yr) ⌝ }
+// Edge i of the outline in the frame's turn.
+pub fn side_at(o: &[u16], f: Frame, i: usize) -> Side
+    requires { ⌜ Lent (now o) ⌝ ∗ ⌜ FrameOf (now o) f ⌝ ∗ ⌜ i < sides (now o) ⌝ }
+    ensures { λ r. ⌜ SideOf (now (o .entry)) (f .turn) i (r .xl) (r .yl) (r .xr) (r .yr) ⌝ }
 {
     let j = next(o.len() / 2, i);
-    let u = vertex_at(o, b, t, i);
-    let v = vertex_at(o, b, t, j);
+    let u = vertex_at(o, f, i);
+    let v = vertex_at(o, f, j);
     side_of(u, v)
 }

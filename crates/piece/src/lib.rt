@@ -5,6 +5,7 @@ ghost use Prim.Native.Nat.{_*_, _≤_};
 ghost use lib.ListN.{length};
 ghost use Rattle.defs.specs.Computing.Calls.{q9b};
 ghost use Rattle.defs.specs.Computing.Sheets.{pieceOf, sheetPieceNo};
+ghost use Rattle.outline.specs.Vertex.{BoundsOf};
 ghost use Rattle.asked.proofs.InOrder.{Ordered};
 ghost use Rattle.cutlist.specs.Pieces.{PieceAt};
 ghost use Rattle.tables.proofs.Copies.{NoneBefore};
@@ -15,6 +16,7 @@ use defs::Entry;
 use defs::Figures;
 use defs::PlacingTries;
 use fates::Tally;
+use outline::Bounds;
 use records::Chain;
 use search::Way;
 
@@ -31,12 +33,13 @@ fn place_current(
     lows2: &mut [u16],
     highs2: &mut [u16],
     o: &[u16],
+    b: Bounds,
     mask: u16,
     lower: usize,
     work: &mut [u16],
 ) -> PlacingTries
     requires { ⌜ Boards second (now first) (now lows) (now highs) (now first2) (now lows2) (now highs2) (g .width) (g .resolution) (g .columns) gap q ⌝
-        ∗ ⌜ Ordered (now o) (q9b mask) mask ⌝
+        ∗ ⌜ Ordered (now o) (q9b mask) mask ⌝ ∗ ⌜ BoundsOf (now o) b ⌝
         ∗ ⌜ NoneBefore (g .width) (g .resolution) (g .columns) gap
         (heldBy second (now first) (now lows) (now highs) (now first2) (now lows2) (now highs2) (g .columns)) (now o) mask lower ⌝ }
     ensures { λ a. ⌜ PlacedBy second (now (first .entry)) (now (lows .entry)) (now (highs .entry)) (now (first2 .entry)) (now (lows2 .entry)) (now (highs2 .entry))
@@ -52,6 +55,7 @@ fn place_current(
             lows2,
             highs2,
             o,
+            b,
             mask,
             Way::Round,
             lower,
@@ -69,6 +73,7 @@ fn place_current(
             lows,
             highs,
             o,
+            b,
             mask,
             Way::Round,
             lower,
@@ -106,6 +111,7 @@ fn lay_outline(
         (now (first .exit)) (now (lows .exit)) (now (highs .exit)) (now (first2 .exit)) (now (lows2 .exit)) (now (highs2 .exit))
         (now (out .entry)) (now (out .exit)) (now (o .entry)) (g .width) (g .resolution) (g .columns) gap q mask (length (now (work .entry))) t r ⌝ }
 {
+    let b = outline::bounds_of(o);
     let x = place_current(
         g,
         gap,
@@ -118,12 +124,13 @@ fn lay_outline(
         lows2,
         highs2,
         o,
+        b,
         mask,
         lower,
         work,
     );
     let a = x.placing;
-    let e = fates::end_of(o, g.resolution, a);
+    let e = fates::end_of(o, b, g.resolution, a);
     fates::put_entry(
         Entry {
             ordinal: t.ordinal,

@@ -2,6 +2,7 @@
 
 ghost use lib.ListN.{length};
 ghost use Rattle.position.specs.Table.{Tabled, CountedOn};
+use checks::Checked;
 use defs::Figures;
 use defs::PlacingTries;
 use search::Way;
@@ -27,24 +28,24 @@ pub fn place_on(
     ensures { λ a. ⌜ CountedOn (now (first .entry)) (now (lows .entry)) (now (highs .entry)) (now (first2 .exit)) (now (lows2 .exit)) (now (highs2 .exit)) (now (o .entry)) (g .width) (g .resolution) (g .columns) gap q mask (length (now (work .entry))) way (a .placing) (a .tries) ⌝ }
 {
     let ninth = checks::nine(mask);
-    let no = asked::order_no(o, ninth, mask);
-    if no != 0 {
-        return position::untried(no, 1);
+    match asked::order(o, ninth, mask) {
+        Checked::No(n) => position::untried(n, 1),
+        Checked::Passes(b) => position::place_asked(
+            g,
+            gap,
+            q,
+            first,
+            lows,
+            highs,
+            o,
+            b,
+            mask,
+            way,
+            0,
+            work,
+            first2,
+            lows2,
+            highs2,
+        ),
     }
-    position::place_asked(
-        g,
-        gap,
-        q,
-        first,
-        lows,
-        highs,
-        o,
-        mask,
-        way,
-        0,
-        work,
-        first2,
-        lows2,
-        highs2,
-    )
 }

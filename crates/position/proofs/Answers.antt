@@ -4,7 +4,6 @@ use mathlib.Core.Path.{_≡_, refl, sym, ap, _∙_}
 use mathlib.Core.Logic.{_↔_, _≢_, Iff·symm}
 use mathlib.Core.Bool.{Bool, true, false}
 use mathlib.Core.List.{List}
-use mathlib.Core.Option.{none, some}
 use Prim.Native.Nat.{ℕ, _*_, _/_, _≤_, _<_}
 use native.Mathlib.Omega.{arith}
 use lib.Dec.{eqb}
@@ -22,9 +21,10 @@ use Rattle.defs.specs.Computing.Calls.{refusal, q9b, q11b, q12b, q14b, outlineN
 use Rattle.laws.proofs.Questions.{question-7}
 use Rattle.laws.proofs.Tests.{not-decides}
 use Rattle.geom.proofs.Checks.{question-10, question-12, most-same, runs-of-turn, none-no-is, has-side}
-use Rattle.checks.proofs.Turned.{lent-of}
+use Rattle.checks.proofs.Bounded.{lent-of}
 use Rattle.asked.specs.Answers.{orderNo, FirstNo}
 use Rattle.asked.proofs.InOrder.{Ordered, ordered, some-no}
+use Rattle.outline.specs.declared.Bounds.{Bounds}
 use Rattle.outline.specs.Vertex.{BoundsOf}
 use Rattle.tables.specs.Flat.{Laid, tableOf}
 use Rattle.tables.proofs.Flats.{table-flat}
@@ -51,8 +51,8 @@ module _ (W R N g Q : ℕ) (held : List (List Rows)) (o : List ℕ) (mask words 
       (rw (f, e) refl, rw f refl)
 
   -- to one of 7 to 10
-  pub to-ten : {r : ℕ} → 1 ≤ R → FirstNo o (q9b mask) mask r → r ≢ 0 → Untried r
-  to-ten Rpos f n = outline-no (sym (f .every R Rpos)) n
+  pub to-ten : {r : ℕ} → 1 ≤ R → FirstNo o (q9b mask) mask r → 0 < r → Untried r
+  to-ten Rpos f n = outline-no (sym (f .every R Rpos)) (λ z. omega arith)
 
   module _ {way : Way} {s : Tried} (Rpos : 1 ≤ R) (y : Ordered o (q9b mask) mask) (tried : TurnsTo W R N g held o mask 4 words way s) where
     -- question 11 is answered by the runs with the gap: there is one exactly when there is one without
@@ -110,9 +110,8 @@ module _ (W R N g Q : ℕ) (held : List (List Rows)) (o : List ℕ) (mask words 
         fourteen b e = sym (chosen ∙ ap (choose W R g Q held o) (best-is (Chosen b) e))
 
         -- the position is on the strip, and the work buffer has room for the runs of its turn
-        pub enterable : {f l h : List ℕ} {n left right foot head words' : ℕ} (b : Ranked) → held ≡ tableOf f l h N → Laid f l h W N n →
-            BoundsOf o left right foot head → s .best ≡ Chosen b → words' ≡ words →
-            Enterable f l h o W R N g left right foot head words' (b .at)
+        pub enterable : {f l h : List ℕ} {n words' : ℕ} {x : Bounds} (b : Ranked) → held ≡ tableOf f l h N → Laid f l h W N n →
+            BoundsOf o x → s .best ≡ Chosen b → words' ≡ words → Enterable f l h o W R N g x words' (b .at)
         unfolding Question10 Question12
         enterable {f} {l} {h} b eh laid bounds e same =
             let q10 = question-10 o mask .0 (y .ten) in
@@ -132,11 +131,10 @@ module _ (W R N g Q : ℕ) (held : List (List Rows)) (o : List ℕ) (mask words 
             }
 
 -- what questions 7 to 10 say, with the answer to 9 by its name
-pub passed : (o : List ℕ) (mask : ℕ) {ninth : Bool} {r : ℕ} → ninth ≡ q9b mask → r ≡ orderNo o ninth mask → r ≡ 0 →
-    Ordered o (q9b mask) mask
-passed o mask {ninth} e f z = ordered o (q9b mask) mask (f ∙ ap (λ (b : Bool). orderNo o b mask) e) z
+pub passed : (o : List ℕ) (mask : ℕ) {ninth : Bool} → ninth ≡ q9b mask → orderNo o ninth mask ≡ 0 → Ordered o (q9b mask) mask
+passed o mask {ninth} e z = ordered o (q9b mask) mask (sym (ap (λ (b : Bool). orderNo o b mask) e) ∙ z)
 
-pub refused-to-ten : (o : List ℕ) (mask : ℕ) {ninth : Bool} {r : ℕ} → ninth ≡ q9b mask → r ≡ orderNo o ninth mask → r ≢ 0 →
+pub refused-to-ten : (o : List ℕ) (mask : ℕ) {ninth : Bool} {r : ℕ} → ninth ≡ q9b mask → r ≡ orderNo o ninth mask → 0 < r →
     FirstNo o (q9b mask) mask r
 refused-to-ten o mask e f n = some-no o (q9b mask) mask (f ∙ ap (λ (b : Bool). orderNo o b mask) e) n
 
@@ -163,12 +161,12 @@ pub untried-on : {f l h f' l' h' o : List ℕ} {W R N g Q mask words number : �
 untried-on way e q = rw e (record { placed = refused-on refl (q .0); counted = no-tries way _ (q .1) })
 
 -- what the search among turns asks
-pub ready : {f l h f' l' h' o : List ℕ} {W R N g Q left right foot head mask : ℕ} → Tabled f l h f' l' h' W R N g Q →
-    Ordered o (q9b mask) mask → BoundsOf o left right foot head → Ready f l h o W R N g left right foot head
-ready {o = o} t y b =
+pub ready : {f l h f' l' h' o : List ℕ} {W R N g Q mask : ℕ} {b : Bounds} → Tabled f l h f' l' h' W R N g Q →
+    Ordered o (q9b mask) mask → BoundsOf o b → Ready f l h o W R N g b
+ready {o = o} t y k =
     record {
       lent = lent-of o (y .seven) (y .eight);
-      bounds = b;
+      bounds = k;
       least = t .limits .resolution .at-least;
       most = t .limits .resolution .at-most;
       gap = t .gap;

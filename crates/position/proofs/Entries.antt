@@ -25,6 +25,7 @@ use Rattle.best.proofs.Turns.{stands}
 use Rattle.columnentry.specs.declared.Entry.{Entry}
 use Rattle.columnentry.specs.Columns.{Old, Fits}
 use Rattle.enter.specs.Enters.{Entered, TooMany}
+use Rattle.outline.specs.declared.Bounds.{Bounds}
 use Rattle.position.specs.Table.{Tabled, Enterable, EntersAt}
 
 -- runs that are put into the work buffer, and runs that stand there
@@ -40,12 +41,13 @@ kept-stand {o} {R = R} {g = g} {k = k} {work = work} kept e few room =
 
 module _
     {f l h f' l' h' o : List ℕ}
-    {W R N g Q left right foot head words : ℕ}
+    {W R N g Q words : ℕ}
+    {b : Bounds}
     {work : List ℕ}
     {k : ℕ}
     (p : Position)
     (tabled : Tabled f l h f' l' h' W R N g Q)
-    (at : Enterable f l h o W R N g left right foot head words p)
+    (at : Enterable f l h o W R N g b words p)
     (stand : Stands (pieceRuns o (p .turn) R g) work k) where
   abbrev target : Entry
   target = record { columns = N; width = W; most = Q; runs = k; column = p .column; height = p .height }

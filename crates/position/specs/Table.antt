@@ -14,6 +14,7 @@ use Rattle.defs.specs.Computing.Test.{ask}
 use Rattle.defs.specs.Computing.Cells.{pieceRuns, countRuns}
 use Rattle.defs.specs.Computing.Search.{entered}
 use Rattle.defs.specs.Computing.Calls.{refusal, q14b, placeOn, triesOn}
+use Rattle.outline.specs.declared.Bounds.{Bounds}
 use Rattle.outline.specs.Vertex.{Lent, BoundsOf}
 use Rattle.tables.specs.Flat.{Laid, tableOf}
 use Rattle.search.specs.declared.Way.{Way}
@@ -44,9 +45,9 @@ NextIf f l h f' l' h' o W R N g Q (Placed p) = Next f l h f' l' h' o W R N g Q p
 NextIf f l h f' l' h' o W R N g Q (Refused r) = Unit {0}
 
 -- an outline with a position on the strip, and a work buffer with room for the runs of its turn
-pub record Enterable (f l h o : List ℕ) (W R N g left right foot head words : ℕ) (p : Position) : Type 0 where
+pub record Enterable (f l h o : List ℕ) (W R N g : ℕ) (b : Bounds) (words : ℕ) (p : Position) : Type 0 where
   pub lent : Lent o
-  pub bounds : BoundsOf o left right foot head
+  pub bounds : BoundsOf o b
   pub turn : p .turn ≤ 3
   pub keeps : KeepsOrder (turned o (p .turn))
   pub on-strip : OnStrip W R N o p

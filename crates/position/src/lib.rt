@@ -61,7 +61,7 @@ fn stand_runs(
     s: Standing,
     work: &mut [u16],
 ) -> usize
-    requires { ⌜ Lent (now o) ⌝ ∗ ⌜ BoundsOf (now o) (b .left) (b .right) (b .foot) (b .head) ⌝
+    requires { ⌜ Lent (now o) ⌝ ∗ ⌜ BoundsOf (now o) b ⌝
         ∗ ⌜ (t ≤ 3) × (3 * countRuns (pieceRuns (now o) t r gap) ≤ length (now work)) ⌝ ∗ ⌜ KeepsOrder (turned (now o) t) ⌝
         ∗ ⌜ Resolution r × (gap ≤ 400) × Kept (now o) r gap (now work) (s .turn) (s .runs) ⌝ }
     ensures { λ k. ⌜ Stands (pieceRuns (now (o .entry)) t r gap) (now (work .exit)) k ⌝ }
@@ -70,7 +70,7 @@ fn stand_runs(
         return s.runs;
     }
     let e = outline::extent_of(o, b, t);
-    cells::put_runs(o, b, t, r, gap, e.w, work)
+    cells::put_turn(o, b, t, r, gap, e.w, work)
 }
 
 // Question 14 of position p; the next table has the piece entered there.
@@ -91,7 +91,7 @@ pub fn enter_at(
     highs2: &mut [u16],
 ) -> Placing
     requires { ⌜ Tabled (now first) (now lows) (now highs) (now first2) (now lows2) (now highs2) (g .width) (g .resolution) (g .columns) gap q ⌝
-        ∗ ⌜ Enterable (now first) (now lows) (now highs) (now o) (g .width) (g .resolution) (g .columns) gap (b .left) (b .right) (b .foot) (b .head) (length (now work)) p ⌝
+        ∗ ⌜ Enterable (now first) (now lows) (now highs) (now o) (g .width) (g .resolution) (g .columns) gap b (length (now work)) p ⌝
         ∗ ⌜ Kept (now o) (g .resolution) gap (now work) (s .turn) (s .runs) ⌝ }
     ensures { λ a. ⌜ EntersAt (now (first .entry)) (now (lows .entry)) (now (highs .entry)) (now (first2 .exit)) (now (lows2 .exit)) (now (highs2 .exit)) (now (o .entry)) (g .width) (g .resolution) (g .columns) gap q p a ⌝ }
 {
@@ -110,7 +110,7 @@ pub fn enter_at(
     }
 }
 
-// Questions 11 to 14 of an outline that passes those before, on a table that holds the runs of a strip, where no free position ends
+// Questions 11 to 14 of an outline with bounds b that passes those before, on a table that holds the runs of a strip, where no free position ends
 // before column `lower`; where the piece is placed, the next table holds them after it. The walk counts its tries, the way round none.
 pub fn place_asked(
     g: Figures,
@@ -120,6 +120,7 @@ pub fn place_asked(
     lows: &[u16],
     highs: &[u16],
     o: &[u16],
+    b: Bounds,
     mask: u16,
     way: Way,
     lower: usize,
@@ -129,12 +130,11 @@ pub fn place_asked(
     highs2: &mut [u16],
 ) -> PlacingTries
     requires { ⌜ Tabled (now first) (now lows) (now highs) (now first2) (now lows2) (now highs2) (g .width) (g .resolution) (g .columns) gap q ⌝
-        ∗ ⌜ Ordered (now o) (q9b mask) mask ⌝
+        ∗ ⌜ Ordered (now o) (q9b mask) mask ⌝ ∗ ⌜ BoundsOf (now o) b ⌝
         ∗ ⌜ NoneBefore (g .width) (g .resolution) (g .columns) gap (tableOf (now first) (now lows) (now highs) (g .columns)) (now o) mask lower ⌝ }
     ensures { λ a. ⌜ CountedOn (now (first .entry)) (now (lows .entry)) (now (highs .entry)) (now (first2 .exit)) (now (lows2 .exit)) (now (highs2 .exit)) (now (o .entry)) (g .width) (g .resolution) (g .columns) gap q mask (length (now (work .entry))) way (a .placing) (a .tries) ⌝ }
 {
     let room = work.len() / 3;
-    let b = outline::bounds_of(o);
     let s = best::best_turn(g, gap, first, lows, highs, o, b, mask, way, lower, work);
     if s.most == 0 {
         return untried(11, 1);

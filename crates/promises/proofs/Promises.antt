@@ -11,6 +11,7 @@ use Rattle.claims.proofs.Whole.{demand3-holds}
 use Rattle.claims.proofs.PlaceLists.{place-demand3-holds, places-follow}
 use Rattle.claims.proofs.AskCommit.{place-is-ask-and-commit, commit-as-asked}
 use Rattle.claims.proofs.Tries.{tries}
+use Rattle.claims.proofs.Vertices.{vertices-read}
 use Rattle.claims.proofs.LayList.{lay-demand3}
 use Rattle.claims.proofs.Wrong.{wrong-lists}
 use Rattle.claims.proofs.Choice.{only-numbers-open}
@@ -33,6 +34,7 @@ promises =
       same-11 = question-11-agree;
       enough = enough-work;
       cells = demand2-cells;
+      vertices = vertices-read;
       sheets = demand2-sheets;
       sheets-again = demand2-again;
       list = demand3-holds;

@@ -1,9 +1,8 @@
--- All that is promised, on one page; which theorem holds each promise is in proofs/Promises. A call's contract is its step, and nothing
--- else, for every input: open::open OpenStep, cover::cover CoverStep, place::place PlaceStep, ask::ask AskStep, commit::commit
--- CommitStep, reads::read ReadStep, writes::write WriteStep, laying::lay LayStep, retrace::retrace RetraceStep,
--- readpath::read_path PathReadStep, writepath::write_path PathWriteStep; vikelodu's C functions the same steps, packed
--- (packing/specs/Steps); text::lay_text, what program lay prints, layText. The promises are about steps, so they hold of every program
--- whose calls keep these contracts. Assumes nothing.
+-- All that is promised, on one page; proofs/Promises has each theorem. A call's contract is its step, and nothing else, for every input:
+-- open::open OpenStep, cover::cover CoverStep, place::place PlaceStep, ask::ask AskStep, commit::commit CommitStep, reads::read ReadStep,
+-- writes::write WriteStep, laying::lay LayStep, retrace::retrace RetraceStep, readpath::read_path PathReadStep, writepath::write_path
+-- PathWriteStep; vikelodu's C functions the same steps, packed (packing/specs/Steps); text::lay_text, what program lay prints, layText;
+-- outline::x_at and y_at readX and readY. So the promises hold of every program whose calls keep these contracts. Assumes nothing.
 use mathlib.Core.Logic.{_↔_}
 use mathlib.Core.List.{List}
 use Prim.Native.Nat.{ℕ, _≤_, _<_}
@@ -19,6 +18,7 @@ use Rattle.claims.specs.Demand3.{Demand3-holds}
 use Rattle.claims.specs.Places.{PlaceDemand3-holds, Places-follow}
 use Rattle.claims.specs.Asking.{Place-is-ask-and-commit, Commit-as-asked}
 use Rattle.claims.specs.Tries.{Tries}
+use Rattle.claims.specs.Vertices.{Vertices-read}
 use Rattle.claims.specs.Laying.{Lay-demand3}
 use Rattle.claims.specs.Wrong.{WrongLists}
 use Rattle.claims.specs.Choice.{OnlyNumbersOpen, AnyNumbers}
@@ -41,9 +41,10 @@ pub record Promises : Type 1 where
       (o : List ℕ) → Question7 o → (mask mask' R R' : ℕ) → Question9 mask → Question9 mask' → 1 ≤ R → 1 ≤ R' →
       Question11 o mask R ↔ Question11 o mask' R'
   pub enough : (o : List ℕ) (mask R : ℕ) → Question7 o → Question8 o → Question10 o mask → 1 ≤ R → Question12 o mask R 0 1536000
-  -- Demand 2. Cover gives the cells that hold a point inside, and with a gap those of S-4; sheets read back. What a strip holds is in
-  -- demand 3, and for one place or commit call on any strip in `numbers` (place-alone, commit-alone).
+  -- Demand 2. Cover gives the cells that hold a point inside, with a gap those of S-4; S-6: what is read of an outline in a turn is the
+  -- turned outline, vertex by vertex; sheets read back. What a strip holds: demand 3, and `numbers` (place-alone, commit-alone).
   pub cells : Demand2-cells
+  pub vertices : Vertices-read
   pub sheets : Demand2-sheets
   pub sheets-again : Demand2-again
   -- Demand 3, of every list of place, ask and commit calls; so, in document 01's own words, of place calls alone, and of every laid job.
@@ -63,8 +64,7 @@ pub record Promises : Type 1 where
   pub wrong : WrongLists
   pub numbering : OnlyNumbersOpen
   pub any-numbering : AnyNumbers
-  -- The knife, of every list of which demand 3 holds, so of lists of calls and of laid jobs; and what an outline draws twice, the
-  -- same in every turn.
+  -- The knife, of every list of which demand 3 holds, so of laid jobs too; and what an outline draws twice, the same in every turn.
   pub knife : Knife-safe
   pub list-knife : List-knife-safe
   pub job-knife : Lay-knife-safe

@@ -4,18 +4,20 @@ use mathlib.Core.Path.{_≡_, sym, ap, ap₂, _∙_}
 use mathlib.Core.Bool.{Bool, true, false, cond}
 use mathlib.Core.List.{List}
 use mathlib.Core.Option.{Option, none, some}
-use Prim.Native.Nat.{ℕ, suc, _+_, _*_, _-_}
+use Prim.Native.Nat.{ℕ, suc, _+_, _*_, _-_, _<_}
 use native.Mathlib.Omega.{arith}
 use Rattle.defs.specs.declared.EdgePair.{EdgePair}
 use Rattle.defs.specs.declared.Retracing.{Retracing}
 use Rattle.defs.specs.declared.Retracing.the-variants.{Refused as NotTraced}
 use Rattle.defs.specs.Meaning.Outline.{vx, vy, sides, after, edgeAt, edgeBetween}
 use Rattle.defs.specs.Computing.Test.{firstFrom}
-use Rattle.defs.specs.Computing.Calls.{refusal, q7b, q8b}
+use Rattle.defs.specs.Computing.Calls.{refusal}
 use Rattle.laws.proofs.First.{LeftFrom}
 use Rattle.outline.specs.Vertex.{Lent, edgeOf}
 use Rattle.outline.proofs.Vertices.{small-edge}
 use Rattle.strokes.specs.Retrace.{sharesb, sharedAfter, numbered, firstPair, traced, retraceAnswer, RetraceStep}
+use Rattle.checks.specs.Says.{boundsNo}
+use Rattle.checks.proofs.Bounded.{passed, first-no}
 use Rattle.retrace.specs.Edges.{EdgeIs}
 
 pub edge-is : (o : List ℕ) (i j n : ℕ) {xl yl xr yr : ℕ} → Lent o → n ≡ sides o → j ≡ after n i →
@@ -64,14 +66,10 @@ pair-none o i h = ap (numbered i) h
 
 -- the call
 module _ {o : List ℕ} {a : Retracing} where
-  pub refused-7 : q7b o ≡ false → a ≡ NotTraced (refusal 7 1) → RetraceStep o a
+  pub refused-no : {n : ℕ} → n ≡ boundsNo o → 0 < n → a ≡ NotTraced (refusal n 1) → RetraceStep o a
   unfolding retraceAnswer
-  refused-7 h e = record { answer = rw h e }
+  refused-no h l e = record { answer = e ∙ first-no o (λ n. NotTraced (refusal n 1)) (traced (firstPair o)) h l }
 
-  pub refused-8 : q7b o ≡ true → q8b o ≡ false → a ≡ NotTraced (refusal 8 1) → RetraceStep o a
+  pub looked : boundsNo o ≡ 0 → a ≡ traced (firstPair o) → RetraceStep o a
   unfolding retraceAnswer
-  refused-8 g h e = record { answer = rw (g, h) e }
-
-  pub looked : q7b o ≡ true → q8b o ≡ true → a ≡ traced (firstPair o) → RetraceStep o a
-  unfolding retraceAnswer
-  looked g h e = record { answer = rw (g, h) e }
+  looked z e = let p = passed o z in record { answer = rw (p .0, p .1) e }

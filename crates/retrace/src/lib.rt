@@ -6,6 +6,7 @@ ghost use Rattle.defs.specs.Meaning.Outline.{sides};
 ghost use Rattle.outline.specs.Vertex.{Lent, Small, edgeOf};
 ghost use Rattle.strokes.specs.Retrace.{riseAlike, level, runAlong, standAlong, sharesb, traced, firstPair, RetraceStep};
 ghost use Rattle.retrace.specs.Edges.{EdgeIs, After};
+use checks::Checked;
 use defs::EdgePair;
 use defs::Refusal;
 use defs::Retracing;
@@ -166,11 +167,8 @@ fn refused(number: u16) -> Retracing
 pub fn retrace(o: &[u16]) -> Retracing
     ensures { λ a. ⌜ RetraceStep (now (o .entry)) a ⌝ }
 {
-    if !checks::seven(o) {
-        return refused(7);
+    match checks::bounds(o) {
+        Checked::No(n) => refused(n),
+        Checked::Passes(b) => first_pair(o),
     }
-    if !checks::eight(o) {
-        return refused(8);
-    }
-    first_pair(o)
 }

@@ -3,14 +3,16 @@
 ghost use mathlib.Core.Path.{_≡_};
 ghost use Prim.Native.Nat.{_+_, _*_, _≤_, _<_};
 ghost use Rattle.defs.specs.Meaning.Outline.{sides};
-ghost use Rattle.outline.specs.Vertex.{Lent, BoundsOf};
-ghost use Rattle.shapes.specs.Points.{PointOf};
+ghost use Rattle.outline.specs.Vertex.{Lent, BoundsOf, FrameOf};
+ghost use Rattle.shapes.specs.Points.{PointOf, Drawable};
+use checks::Checked;
 use defs::Covering;
 use defs::Position;
 use defs::Retracing;
 use frame::Scene;
 use marks::Spot;
 use outline::Bounds;
+use outline::Frame;
 use outline::Side;
 
 // A vertex of a placed piece, in units.
@@ -31,11 +33,11 @@ fn moved(x: u16, y: u16, r: u16, p: Position) -> Point
 }
 
 // Vertex i of the placed piece: that of document 01's moved piece.
-fn point_at(o: &[u16], b: Bounds, r: u16, p: Position, i: usize) -> Point
-    requires { ⌜ Lent (now o) ⌝ ∗ ⌜ BoundsOf (now o) (b .left) (b .right) (b .foot) (b .head) ⌝ ∗ ⌜ (p .turn ≤ 3) × (i < sides (now o)) ⌝ }
+fn point_at(o: &[u16], f: Frame, r: u16, p: Position, i: usize) -> Point
+    requires { ⌜ Lent (now o) ⌝ ∗ ⌜ FrameOf (now o) f ⌝ ∗ ⌜ (f .turn ≡ p .turn) × (i < sides (now o)) ⌝ }
     ensures { λ v. ⌜ PointOf (now (o .entry)) r p i (v .x) (v .y) ⌝ }
 {
-    let v = outline::vertex_at(o, b, p.turn, i);
+    let v = outline::vertex_at(o, f, i);
     moved(v.x, v.y, r, p)
 }
 
@@ -54,18 +56,18 @@ fn put_points(
     out: &mut [u8],
     at: usize,
     o: &[u16],
-    b: Bounds,
+    f: Frame,
     r: u16,
     p: Position,
     font: u32,
 ) -> usize
-    requires { ⌜ Lent (now o) ⌝ ∗ ⌜ BoundsOf (now o) (b .left) (b .right) (b .foot) (b .head) ⌝ ∗ ⌜ p .turn ≤ 3 ⌝ }
+    requires { ⌜ Lent (now o) ⌝ ∗ ⌜ FrameOf (now o) f ⌝ ∗ ⌜ f .turn ≡ p .turn ⌝ }
 {
     let n = o.len() / 2;
     let mut i: usize = 0;
     let mut to = at;
     while i < n {
-        let v = point_at(o, b, r, p, i);
+        let v = point_at(o, f, r, p, i);
         to = put_point(out, to, v, font);
         i += 1;
     }
@@ -111,18 +113,18 @@ fn put_edges(
     out: &mut [u8],
     at: usize,
     o: &[u16],
-    b: Bounds,
+    f: Frame,
     r: u16,
     p: Position,
     font: u32,
 ) -> usize
-    requires { ⌜ Lent (now o) ⌝ ∗ ⌜ BoundsOf (now o) (b .left) (b .right) (b .foot) (b .head) ⌝ ∗ ⌜ p .turn ≤ 3 ⌝ }
+    requires { ⌜ Lent (now o) ⌝ ∗ ⌜ FrameOf (now o) f ⌝ ∗ ⌜ f .turn ≡ p .turn ⌝ }
 {
     let n = o.len() / 2;
     let mut i: usize = 0;
     let mut to = at;
     while i < n {
-        let s = stretch::longest_from(o, b, p.turn, i);
+        let s = stretch::longest_from(o, f, i);
         to = put_stretch(out, to, s, r, p, font);
         i += 1;
     }
@@ -189,15 +191,15 @@ fn put_outline(
     out: &mut [u8],
     at: usize,
     o: &[u16],
-    b: Bounds,
+    f: Frame,
     r: u16,
     p: Position,
     font: u32,
 ) -> usize
-    requires { ⌜ Lent (now o) ⌝ ∗ ⌜ BoundsOf (now o) (b .left) (b .right) (b .foot) (b .head) ⌝ ∗ ⌜ p .turn ≤ 3 ⌝ }
+    requires { ⌜ Lent (now o) ⌝ ∗ ⌜ FrameOf (now o) f ⌝ ∗ ⌜ f .turn ≡ p .turn ⌝ }
 {
     let start = put_start(out, at);
-    let a = put_points(out, start, o, b, r, p, font);
+    let a = put_points(out, start, o, f, r, p, font);
     put_end(out, a)
 }
 
@@ -206,21 +208,32 @@ fn put_shape(
     out: &mut [u8],
     at: usize,
     o: &[u16],
+    b: Bounds,
     r: u16,
     p: Position,
     font: u32,
     k: u64,
     work: &mut [u16],
 ) -> usize
-    requires { ⌜ Lent (now o) ⌝ ∗ ⌜ p .turn ≤ 3 ⌝ }
+    requires { ⌜ Lent (now o) ⌝ ∗ ⌜ BoundsOf (now o) b ⌝ ∗ ⌜ p .turn ≤ 3 ⌝ }
 {
-    let b = outline::bounds_of(o);
     let e = outline::extent_of(o, b, p.turn);
-    let a = put_outline(out, at, o, b, r, p, font);
+    let f = outline::frame_of(o, b, p.turn);
+    let a = put_outline(out, at, o, f, r, p, font);
     put_inside(out, a, o, e.w, r, p, font, k, work)
 }
 
-// A placed piece. Each outline that was placed passes 7 and 8, and its turn is one of four.
+// The bounds of a placed piece's outline: each that was placed passes 7 and 8, and its turn is one of four.
+fn placed_bounds(o: &[u16], p: Position) -> Checked
+    ensures { λ a. ⌜ Drawable (now (o .entry)) p a ⌝ }
+{
+    if numbers::MOST_TURN < p.turn {
+        return Checked::No(9);
+    }
+    checks::bounds(o)
+}
+
+// A placed piece.
 fn put_piece(
     out: &mut [u8],
     at: usize,
@@ -231,16 +244,10 @@ fn put_piece(
     k: u64,
     work: &mut [u16],
 ) -> usize {
-    if !checks::seven(o) {
-        return at;
+    match placed_bounds(o, p) {
+        Checked::No(_) => at,
+        Checked::Passes(b) => put_shape(out, at, o, b, r, p, font, k, work),
     }
-    if !checks::eight(o) {
-        return at;
-    }
-    if numbers::MOST_TURN < p.turn {
-        return at;
-    }
-    put_shape(out, at, o, r, p, font, k, work)
 }
 
 // Where piece i was placed. A refused one has no turn.
@@ -291,27 +298,29 @@ pub fn put_pieces(
 }
 
 // The outline of a piece as a part of a path. What the outline draws twice has no gap, but its shade lies below all pieces.
-fn put_loop(out: &mut [u8], at: usize, o: &[u16], r: u16, p: Position, font: u32) -> usize
-    requires { ⌜ Lent (now o) ⌝ ∗ ⌜ p .turn ≤ 3 ⌝ }
+fn put_loop(
+    out: &mut [u8],
+    at: usize,
+    o: &[u16],
+    b: Bounds,
+    r: u16,
+    p: Position,
+    font: u32,
+) -> usize
+    requires { ⌜ Lent (now o) ⌝ ∗ ⌜ BoundsOf (now o) b ⌝ ∗ ⌜ p .turn ≤ 3 ⌝ }
 {
-    let b = outline::bounds_of(o);
+    let f = outline::frame_of(o, b, p.turn);
     let start = svg::fill(out, at, b"M", &[], 0);
-    let a = put_points(out, start, o, b, r, p, font);
+    let a = put_points(out, start, o, f, r, p, font);
     svg::fill(out, a, b"Z", &[], 0)
 }
 
 // The same of a piece that is placed.
 fn put_round(out: &mut [u8], at: usize, o: &[u16], r: u16, p: Position, font: u32) -> usize {
-    if !checks::seven(o) {
-        return at;
+    match placed_bounds(o, p) {
+        Checked::No(_) => at,
+        Checked::Passes(b) => put_loop(out, at, o, b, r, p, font),
     }
-    if !checks::eight(o) {
-        return at;
-    }
-    if p.turn <= numbers::MOST_TURN {
-        return put_loop(out, at, o, r, p, font);
-    }
-    at
 }
 
 // The outlines of the placed pieces as parts of a path.
@@ -355,29 +364,32 @@ fn put_line_end(out: &mut [u8], at: usize) -> usize {
 }
 
 // Dashes over what an outline draws twice.
-fn put_dashed(out: &mut [u8], at: usize, o: &[u16], r: u16, p: Position, font: u32) -> usize
-    requires { ⌜ Lent (now o) ⌝ ∗ ⌜ p .turn ≤ 3 ⌝ }
+fn put_dashed(
+    out: &mut [u8],
+    at: usize,
+    o: &[u16],
+    b: Bounds,
+    r: u16,
+    p: Position,
+    font: u32,
+) -> usize
+    requires { ⌜ Lent (now o) ⌝ ∗ ⌜ BoundsOf (now o) b ⌝ ∗ ⌜ p .turn ≤ 3 ⌝ }
 {
-    let b = outline::bounds_of(o);
+    let f = outline::frame_of(o, b, p.turn);
     let a = put_dashes(out, at);
-    let e = put_edges(out, a, o, b, r, p, font);
+    let e = put_edges(out, a, o, f, r, p, font);
     put_line_end(out, e)
 }
 
 // The same of a piece that is placed and draws something twice.
 fn put_stretches(out: &mut [u8], at: usize, o: &[u16], r: u16, p: Position, font: u32) -> usize {
-    if !checks::seven(o) {
+    if !draws_twice(o) {
         return at;
     }
-    if !checks::eight(o) {
-        return at;
+    match placed_bounds(o, p) {
+        Checked::No(_) => at,
+        Checked::Passes(b) => put_dashed(out, at, o, b, r, p, font),
     }
-    if p.turn <= numbers::MOST_TURN {
-        if draws_twice(o) {
-            return put_dashed(out, at, o, r, p, font);
-        }
-    }
-    at
 }
 
 // What the placed pieces draw twice, over all of them: such a stretch may lie over another piece.

@@ -1,9 +1,9 @@
 // The stretch that two edges share, for pictures and messages.
 
-ghost use Prim.Native.Nat.{_≤_, _<_};
+ghost use Prim.Native.Nat.{_<_};
 ghost use Rattle.defs.specs.Meaning.Outline.{sides};
-ghost use Rattle.outline.specs.Vertex.{Lent, BoundsOf, Small};
-use outline::Bounds;
+ghost use Rattle.outline.specs.Vertex.{Lent, FrameOf, Small};
+use outline::Frame;
 use outline::Side;
 
 // An edge with its lower end first if it is vertical.
@@ -82,19 +82,19 @@ pub fn is_long(s: Side) -> bool {
     before(s.xl, s.yl, s.xr, s.yr)
 }
 
-// The longest stretch from the start of edge i, in turn t, that another edge shares. Each stretch that is drawn twice lies in one of
+// The longest stretch from the start of edge i, in the frame's turn, that another edge shares. Each stretch that is drawn twice lies in one of
 // these, since it begins where one of its two edges does.
-pub fn longest_from(o: &[u16], b: Bounds, t: u16, i: usize) -> Side
-    requires { ⌜ Lent (now o) ⌝ ∗ ⌜ BoundsOf (now o) (b .left) (b .right) (b .foot) (b .head) ⌝ ∗ ⌜ (t ≤ 3) × (i < sides (now o)) ⌝ }
+pub fn longest_from(o: &[u16], f: Frame, i: usize) -> Side
+    requires { ⌜ Lent (now o) ⌝ ∗ ⌜ FrameOf (now o) f ⌝ ∗ ⌜ i < sides (now o) ⌝ }
 {
     let n = o.len() / 2;
-    let e = outline::side_at(o, b, t, i);
+    let e = outline::side_at(o, f, i);
     let mut s = start(e);
     let mut j = 0;
     while j < n {
         if j != i {
-            let f = outline::side_at(o, b, t, j);
-            s = longer(s, from_start(e, f));
+            let g = outline::side_at(o, f, j);
+            s = longer(s, from_start(e, g));
         }
         j += 1;
     }

@@ -10,7 +10,8 @@ use Rattle.defs.specs.Meaning.Outline.{Edge, vx, vy, sides, after, edgeAt}
 use Rattle.defs.specs.Meaning.Limits.{mostTurn}
 use Rattle.defs.specs.Meaning.Turn.{turned}
 use Rattle.defs.specs.Meaning.Placing.{moved}
-use Rattle.laws.proofs.Turns.{leastN, turn-0-x, turn-0-y, at-x, at-y}
+use Rattle.defs.specs.Computing.Vertices.{leastN}
+use Rattle.laws.proofs.Turns.{turn-0-x, turn-0-y, at-x, at-y}
 use Rattle.laws.proofs.Order.{compare3}
 use Rattle.geom.proofs.Extent.{after-below, length-outline, sides-turned}
 use Rattle.turns.proofs.Quarter.{Quarter}

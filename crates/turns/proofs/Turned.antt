@@ -9,7 +9,8 @@ use Rattle.defs.specs.Meaning.Outline.{vx, vy, sides}
 use Rattle.defs.specs.Meaning.Limits.{mostTurn}
 use Rattle.defs.specs.Meaning.Turn.{turned}
 use Rattle.laws.proofs.Extremes.{least-at, most-at}
-use Rattle.laws.proofs.Turns.{leastN, mostN, turn-0-x, turn-0-y, turn-1-x, turn-1-y, turn-2-x, turn-2-y, turn-3-x, turn-3-y}
+use Rattle.defs.specs.Computing.Vertices.{leastN, mostN}
+use Rattle.laws.proofs.Turns.{turn-0-x, turn-0-y, turn-1-x, turn-1-y, turn-2-x, turn-2-y, turn-3-x, turn-3-y}
 use Rattle.geom.proofs.Extent.{sides-turned}
 use Rattle.turns.proofs.Quarter.{Quarter, HasPoint, quarter-point}
 

@@ -1,11 +1,14 @@
 // Writing an outline as a path of the drawing program.
 
 ghost use mathlib.Core.Path.{_≡_};
+ghost use mathlib.Core.Bool.{true};
 ghost use lib.ListN.{drop};
 ghost use lib.Seq.{sets};
+ghost use Rattle.defs.specs.Computing.Calls.{q7b, q8b};
 ghost use Rattle.pathdefs.specs.Meaning.Path.{stepBytes};
 ghost use Rattle.pathdefs.specs.Computing.Paths.{linesBytes, pathBytes, PathWriteStep};
 ghost use Rattle.writepath.specs.Fits.{PathFits};
+use checks::Checked;
 use defs::Refusal;
 use defs::Writing;
 use pathdefs::Step;
@@ -44,20 +47,25 @@ fn put_path(outline: &[u16], out: &mut [u8])
     put_lines(outline, out);
 }
 
-// The call that writes a path. Nothing is written before every question is answered.
-pub fn write_path(outline: &[u16], out: &mut [u8]) -> Writing
+// Question 15 of an outline that passes 7 and 8, and the path.
+fn write_passed(outline: &[u16], out: &mut [u8]) -> Writing
+    requires { ⌜ (q7b (now outline) ≡ true) × (q8b (now outline) ≡ true) ⌝ }
     ensures { λ a. ⌜ PathWriteStep (now (outline .entry)) (now (out .entry)) a (now (out .exit)) ⌝ }
 {
-    if !checks::seven(outline) {
-        return refused(7, 1);
-    }
-    if !checks::eight(outline) {
-        return refused(8, 1);
-    }
     let size = pathsteps::STEP_BYTES * (outline.len() / 2) + 1;
     if out.len() < size {
         return refused(15, 0);
     }
     put_path(outline, out);
     Writing::Written(size as u32)
+}
+
+// The call that writes a path. Nothing is written before every question is answered.
+pub fn write_path(outline: &[u16], out: &mut [u8]) -> Writing
+    ensures { λ a. ⌜ PathWriteStep (now (outline .entry)) (now (out .entry)) a (now (out .exit)) ⌝ }
+{
+    match checks::bounds(outline) {
+        Checked::No(n) => refused(n, 1),
+        Checked::Passes(b) => write_passed(outline, out),
+    }
 }

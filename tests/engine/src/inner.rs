@@ -8,6 +8,8 @@ mod exported {
         pub fn vikelodu_well_formed(strip: *const u16, strip_words: usize) -> bool;
         pub fn vikelodu_rewrite(strip: *mut u16, strip_words: usize) -> u64;
         pub fn vikelodu_decoded(strip: *const u16, strip_words: usize) -> u32;
+        pub fn vikelodu_vertex(outline: *const u16, outline_words: usize, turn: u16, i: u16)
+            -> u64;
     }
 }
 
@@ -37,4 +39,16 @@ pub fn decoded(strip: &[u16]) -> Option<u32> {
     // Sound, as above.
     let runs = unsafe { exported::vikelodu_decoded(strip.as_ptr(), strip.len()) };
     (runs != u32::MAX).then_some(runs)
+}
+
+/// x and y of vertex i as the engine reads it through the turn; nothing where there
+/// is no such turn or no such vertex.
+pub fn vertex(outline: &[u16], turn: u16, i: u16) -> Option<(u16, u16)> {
+    // Sound, as above.
+    let answer = unsafe { exported::vikelodu_vertex(outline.as_ptr(), outline.len(), turn, i) };
+    if answer == 1 << 32 {
+        return None;
+    }
+    assert!(answer < 1 << 32, "more than a vertex: {answer:#x}");
+    Some((answer as u16, (answer >> 16) as u16))
 }

@@ -9,8 +9,8 @@ use Rattle.best.proofs.try_turn.Tie as tie
 extent-of-requires : tie.Need-extent-of-requires
 extent-of-requires c κs = search needs
 
-put-runs-requires : tie.Need-put-runs-requires
-put-runs-requires c κs =
+put-turn-requires : tie.Need-put-turn-requires
+put-turn-requires c κs =
     let pre = c .before .before .before .before .before .before .before .pre in (
       pre .0 .lent,
       (
@@ -26,7 +26,7 @@ same-length : tie.Need-same-length
 same-length c = search needs
 
 returns : tie.Need-returns
-returns c = (too-many (c .before .before .before .put-runs .ensures) _ _ _ _ _ (c .if1 .taken), put-kept (c .before .before .before .put-runs .ensures))
+returns c = (too-many (c .before .before .before .put-turn .ensures) _ _ _ _ _ (c .if1 .taken), put-kept (c .before .before .before .put-turn .ensures))
 
 columns-for-requires : tie.Need-columns-for-requires
 columns-for-requires c κs = search needs
@@ -37,7 +37,7 @@ cast-t23 c = search needs
 search-requires : tie.Need-search-requires
 search-requires c κs =
     let pre = c .before .before .before .before .before .before .before .before .before .before .before .before .before .before .pre in
-    let fits = stands (c .before .before .before .before .before .before .put-runs .ensures) (c .before .before .before .if1 .left) in
+    let fits = stands (c .before .before .before .before .before .before .put-turn .ensures) (c .before .before .before .if1 .left) in
     let extent = c .before .before .before .before .before .before .before .before .extent-of .ensures in
     let columns = c .before .before .columns-for .ensures in (
       frame _ _ _ _ (pre .0 .gap) (pre .0 .table) fits (extent .0) columns (extent .1),
@@ -60,17 +60,17 @@ same-length-2 c = search needs
 
 returns-2 : tie.Need-returns-2
 returns-2 c =
-    let fits = stands (c .before .before .before .before .before .before .before .before .before .put-runs .ensures) (c .before .before .before .before .before .before .if1 .left) in
+    let fits = stands (c .before .before .before .before .before .before .before .before .before .put-turn .ensures) (c .before .before .before .before .before .before .if1 .left) in
     let extent = c .before .before .before .before .before .before .before .before .before .before .before .extent-of .ensures in (
       turn-tried _ _ _ _ (c .before .before .before .before .before .before .before .before .before .before .before .before .before .before .before .before .before .pre .0 .gap) (c .before .before .before .before .before .before .before .before .before .before .before .before .before .before .before .before .before .pre .0 .table) fits (extent .0) (c .before .before .before .before .before .columns-for .ensures) (extent .1) _ _ _ (c .before .before .search .result)
           (c .before .before .search .ensures) (rw (c .enum-told .given .1) refl),
-      put-kept (c .before .before .before .before .before .before .before .before .before .put-runs .ensures),
+      put-kept (c .before .before .before .before .before .before .before .before .before .put-turn .ensures),
     )
 
 rank-requires : tie.Need-rank-requires
 rank-requires c κs =
     let pre = c .before .before .before .before .before .before .before .before .before .before .before .before .before .before .before .before .before .before .pre .0 in
-    let fits = stands (c .before .before .before .before .before .before .before .before .before .before .put-runs .ensures) (c .before .before .before .before .before .before .before .if1 .left) in
+    let fits = stands (c .before .before .before .before .before .before .before .before .before .before .put-turn .ensures) (c .before .before .before .before .before .before .before .if1 .left) in
     let extent = c .before .before .before .before .before .before .before .before .before .before .before .before .extent-of .ensures in
     spot-fits _ _ _ _ (pre .gap) (pre .table) fits (extent .0) (c .before .before .before .before .before .before .columns-for .ensures) (extent .1) (pre .width) (pre .columns) (c .before .before .before .search .ensures)
     (c .before .spot .given .1)
@@ -80,11 +80,11 @@ same-length-3 c = search needs
 
 returns-3 : tie.Need-returns-3
 returns-3 c =
-    let fits = stands (c .before .before .before .before .before .before .before .before .before .before .before .put-runs .ensures) (c .before .before .before .before .before .before .before .before .if1 .left) in
+    let fits = stands (c .before .before .before .before .before .before .before .before .before .before .before .put-turn .ensures) (c .before .before .before .before .before .before .before .before .if1 .left) in
     let extent = c .before .before .before .before .before .before .before .before .before .before .before .before .before .extent-of .ensures in (
       turn-tried _ _ _ _ (c .before .before .before .before .before .before .before .before .before .before .before .before .before .before .before .before .before .before .before .pre .0 .gap) (c .before .before .before .before .before .before .before .before .before .before .before .before .before .before .before .before .before .before .before .pre .0 .table) fits (extent .0) (c .before .before .before .before .before .before .before .columns-for .ensures) (extent .1) _ _ _ (c .before .before .before .before .search .result)
           (c .before .before .before .before .search .ensures) (rw (c .before .before .spot .given .1) (ap Chosen (c .rank .ensures))),
-      put-kept (c .before .before .before .before .before .before .before .before .before .before .before .put-runs .ensures),
+      put-kept (c .before .before .before .before .before .before .before .before .before .before .before .put-turn .ensures),
     )
 
 pub try-turn-spec : {M : Type 1} → statement M
@@ -92,7 +92,7 @@ try-turn-spec =
     tie.close
     (tie.spec
     extent-of-requires
-    put-runs-requires
+    put-turn-requires
     same-length
     returns
     columns-for-requires

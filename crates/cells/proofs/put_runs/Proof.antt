@@ -15,17 +15,17 @@ use Rattle.cells.proofs.put_runs.Statement.{statement}
 use Rattle.cells.proofs.put_runs.Tie as tie
 
 abbrev Inv-loop : tie.InvT-loop
-Inv-loop o b t r gap w out₀ h0₀ h1₀ d₀ g0₀ g1₀ lows₀ highs₀ reach f₀ k₀ i₀ start₀ out h0 h1 d g0 g1 lows highs f k i start =
-    Putting (columnRuns o t r gap) (w + gap) r out₀ out i start k ×
-    Working (turned o t) (f .slab .start) (f .slab .end) (f .slab .count) (f .slab .cut) h0 h1 d g0 g1 lows highs ×
+Inv-loop o f r gap w out₀ h0₀ h1₀ d₀ g0₀ g1₀ lows₀ highs₀ reach c₀ k₀ i₀ start₀ out h0 h1 d g0 g1 lows highs c k i start =
+    Putting (columnRuns o (f .turn) r gap) (w + gap) r out₀ out i start k ×
+    Working (turned o (f .turn)) (c .slab .start) (c .slab .end) (c .slab .count) (c .slab .cut) h0 h1 d g0 g1 lows highs ×
     (length lows ≡ 8001) × (length highs ≡ 8001)
 
 abbrev μ-loop : tie.MeasureT-loop
-μ-loop o b t r gap w out₀ h0₀ h1₀ d₀ g0₀ g1₀ lows₀ highs₀ reach f₀ k₀ i₀ start₀ out h0 h1 d g0 g1 lows highs f k i start =
+μ-loop o f r gap w out₀ h0₀ h1₀ d₀ g0₀ g1₀ lows₀ highs₀ reach c₀ k₀ i₀ start₀ out h0 h1 d g0 g1 lows highs c k i start =
     w + gap - start
 
 add-reach : tie.Need-add-reach Inv-loop μ-loop
-add-reach c = let pre = c .before .before .pre in omega (arith, extent-limit (pre .0) (pre .1 .0) _ (pre .1 .1 .0 .0), pre .1 .1 .0 .1, pre .1 .1 .1 .1 .1)
+add-reach c = let pre = c .before .before .pre in omega (arith, extent-limit (pre .0) _ (pre .1 .0 .turn), pre .1 .1 .0, pre .1 .1 .1 .1 .1)
 
 nothing-requires : tie.Need-nothing-requires Inv-loop μ-loop
 nothing-requires c κs = search needs
@@ -59,7 +59,7 @@ gap-column-requires : tie.Need-gap-column-requires Inv-loop μ-loop
 gap-column-requires c κs =
     let inv = c .before .before .before .before .before .before .before .before .loop .inv in
     let pre = c .before .before .before .before .before .before .before .before .before .before .before .before .pre in
-    (pre .0, (pre .1 .0, ((pre .1 .1 .0 .0, record { least = pre .1 .1 .1 .1 .0 .least; most = pre .1 .1 .1 .1 .0 .most; gap = pre .1 .1 .1 .1 .1; wide = omega (arith, extent-limit (pre .0) (pre .1 .0) _ (pre .1 .1 .0 .0), pre .1 .1 .0 .1); before = c .before .before .before .before .before .before .before .loop-test .taken }), (pre .1 .1 .1 .0, inv .1))))
+    (pre .0, (pre .1 .0, (record { least = pre .1 .1 .1 .1 .0 .least; most = pre .1 .1 .1 .1 .0 .most; gap = pre .1 .1 .1 .1 .1; wide = omega (arith, extent-limit (pre .0) _ (pre .1 .0 .turn), pre .1 .1 .0); before = c .before .before .before .before .before .before .before .loop-test .taken }, (pre .1 .1 .1 .0, inv .1))))
 
 slice-aggregate-put-if-fits : tie.Need-slice-aggregate-put-if-fits Inv-loop μ-loop
 slice-aggregate-put-if-fits c = omega (arith, c .before .before .before .before .before .before .before .before .before .before .before .before .before .before .before .before .before .loop .inv .2)
@@ -74,10 +74,10 @@ put-if-fits-requires c κs =
     (omega (arith, f, inv .2), omega (arith, f, inv .3), omega (arith, f), inv .0 .few)
 
 add-start : tie.Need-add-start Inv-loop μ-loop
-add-start c = let pre = c .before .before .before .before .before .before .before .before .before .before .before .before .before .before .before .before .before .before .before .before .before .before .before .before .before .before .pre in omega (arith, c .before .before .before .before .before .before .before .before .before .before .before .before .before .before .before .before .before .before .before .before .before .loop-test .taken, extent-limit (pre .0) (pre .1 .0) _ (pre .1 .1 .0 .0), pre .1 .1 .0 .1, pre .1 .1 .1 .1 .1, pre .1 .1 .1 .1 .0 .most)
+add-start c = let pre = c .before .before .before .before .before .before .before .before .before .before .before .before .before .before .before .before .before .before .before .before .before .before .before .before .before .before .pre in omega (arith, c .before .before .before .before .before .before .before .before .before .before .before .before .before .before .before .before .before .before .before .before .before .loop-test .taken, extent-limit (pre .0) _ (pre .1 .0 .turn), pre .1 .1 .0, pre .1 .1 .1 .1 .1, pre .1 .1 .1 .1 .0 .most)
 
 add-i : tie.Need-add-i Inv-loop μ-loop
-add-i c = let pre = c .before .before .before .before .before .before .before .before .before .before .before .before .before .before .before .before .before .before .before .before .before .before .before .before .before .before .pre in omega (arith, c .before .before .before .before .before .before .before .before .before .before .before .before .before .before .before .before .before .before .before .before .before .loop-test .taken, extent-limit (pre .0) (pre .1 .0) _ (pre .1 .1 .0 .0), pre .1 .1 .0 .1, pre .1 .1 .1 .1 .1, column-number (c .before .before .before .before .before .before .before .before .before .before .before .before .before .before .before .before .before .before .before .before .before .before .loop .inv .0) (pre .1 .1 .1 .1 .0 .least))
+add-i c = let pre = c .before .before .before .before .before .before .before .before .before .before .before .before .before .before .before .before .before .before .before .before .before .before .before .before .before .before .pre in omega (arith, c .before .before .before .before .before .before .before .before .before .before .before .before .before .before .before .before .before .before .before .before .before .loop-test .taken, extent-limit (pre .0) _ (pre .1 .0 .turn), pre .1 .1 .0, pre .1 .1 .1 .1 .1, column-number (c .before .before .before .before .before .before .before .before .before .before .before .before .before .before .before .before .before .before .before .before .before .before .loop .inv .0) (pre .1 .1 .1 .1 .0 .least))
 
 loop-less : tie.Need-loop-less Inv-loop μ-loop
 loop-less c = omega (arith, c .before .before .before .before .before .before .before .before .before .before .before .before .before .before .before .before .before .before .before .before .before .loop-test .taken, c .before .before .before .before .before .before .before .before .before .before .before .before .before .before .before .before .before .before .before .before .before .before .before .before .before .before .pre .1 .1 .1 .1 .0 .least)
@@ -87,7 +87,7 @@ loop-again c =
     let pre = c .before .before .before .before .before .before .before .before .before .before .before .before .before .before .before .before .before .before .before .before .before .before .before .before .before .before .pre in
     let inv = c .before .before .before .before .before .before .before .before .before .before .before .before .before .before .before .before .before .before .before .before .before .before .loop .inv in
     let column = c .before .before .before .before .before .before .before .before .before .before .before .before .before .gap-column .ensures in (
-      column-put (pre .0) (pre .1 .0) (pre .1 .1 .0 .0) (pre .1 .1 .1 .0) (pre .1 .1 .0 .1) (pre .1 .1 .1 .1 .0 .least) (inv .0)
+      column-put (pre .0) (pre .1 .0 .turn) (pre .1 .1 .1 .0) (pre .1 .1 .0) (pre .1 .1 .1 .1 .0 .least) (inv .0)
           (c .before .before .before .before .before .before .before .before .before .before .before .before .before .before .before .before .before .before .before .before .before .loop-test .taken) column (c .before .before .put-if-fits .ensures),
       at-work (omega (arith, inv .1 .buffers .left)) (omega (arith, inv .1 .buffers .right)) (omega (arith, inv .1 .buffers .wide))
           (omega (arith, inv .1 .part-left)) (omega (arith, inv .1 .part-right)) (omega (arith, inv .2)) (omega (arith, inv .3))
@@ -102,7 +102,7 @@ same-length c = search needs
 returns : tie.Need-returns Inv-loop μ-loop
 returns c =
     let pre = c .before .before .before .before .before .pre .1 .1 in
-    all-put (pre .0 .1) (c .before .loop .inv .0) (pre .1 .1 .0 .least) (omega arith)
+    all-put (pre .0) (c .before .loop .inv .0) (pre .1 .1 .0 .least) (omega arith)
 
 pub put-runs-spec : {M : Type 1} → statement M
 put-runs-spec =

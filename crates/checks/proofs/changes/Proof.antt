@@ -1,30 +1,54 @@
--- `changes` meets its contract: where one edge is nowhere above the other, the two do not change order.
--- Assumes nothing.
-use mathlib.Core.Path.{sym, _∙_}
-use borrow.Author.Tests.{leb-true}
+-- `changes` meets its contract: where one edge is nowhere above the other, the two do not change order. Assumes nothing.
+use mathlib.Core.Path.{ap, _∙_}
+use Rattle.slabs.specs.Change.{changesb}
+use Rattle.checks.proofs.Levels.{not-beside, edge-read}
+use Rattle.checks.proofs.Pairs.{small-of}
 use borrow.Author.Needs.{needs}
-use Rattle.checks.proofs.Levels.{under-first, under-second}
 use Rattle.checks.proofs.changes.Statement.{statement}
 use Rattle.checks.proofs.changes.Tie as tie
 
-under-requires : tie.Need-under-requires
-under-requires c κs = search needs
+beside-requires : tie.Need-beside-requires
+beside-requires c κs = search needs
 
-returns : tie.Need-returns
-returns c = let p = c .before .before .pre in under-first (p .0) (p .1) (leb-true _ _ (sym (c .before .under .ensures) ∙ c .if1 .taken))
+x-at-requires : tie.Need-x-at-requires
+x-at-requires c κs = search needs
 
-under-requires-2 : tie.Need-under-requires-2
-under-requires-2 c κs = search needs
+add-x-at : tie.Need-add-x-at
+add-x-at c = search needs
 
-returns-2 : tie.Need-returns-2
-returns-2 c = let p = c .before .before .before .before .pre in under-second (p .1) (p .0) (leb-true _ _ (sym (c .before .under2 .ensures) ∙ c .if2 .taken))
+x-at-requires-2 : tie.Need-x-at-requires-2
+x-at-requires-2 c κs = search needs
+
+side-of-requires : tie.Need-side-of-requires
+side-of-requires c κs = search needs
 
 swaps-requires : tie.Need-swaps-requires
-swaps-requires c κs = search needs
+swaps-requires c κs =
+    let p = c .before .before .before .before .before .before .pre in
+    let n = p .1 .1 .1 .1 in
+    (p .1 .1 .0, small-of (edge-read (p .1 .1 .0) (p .1 .1 .1 .0 .0) (p .1 .1 .1 .0 .1) _ (p .0) (p .1 .0) (n .0) (n .1) (n .2) (c .before .before .x-at .ensures) (c .before .x-at2 .ensures) (c .side-of .ensures)))
 
-returns-3 : tie.Need-returns-3
-returns-3 c = search needs
+returns : tie.Need-returns
+returns c =
+    let p = c .before .before .before .before .before .before .before .pre in
+    let n = p .1 .1 .1 .1 in
+    c .swaps .ensures ∙ ap (changesb _) (edge-read (p .1 .1 .0) (p .1 .1 .1 .0 .0) (p .1 .1 .1 .0 .1) _ (p .0) (p .1 .0) (n .0) (n .1) (n .2) (c .before .before .before .x-at .ensures) (c .before .before .x-at2 .ensures) (c .before .side-of .ensures) .is)
+
+returns-2 : tie.Need-returns-2
+returns-2 c =
+    let p = c .before .before .before .pre in
+    let n = p .1 .1 .1 .1 in
+    not-beside (p .1 .1 .0) (p .1 .1 .1 .0 .0) (p .1 .1 .1 .0 .1) _ (p .0) (p .1 .0) (n .0) (n .1) (n .2) (c .before .beside .ensures (c .if1 .left))
 
 pub changes-spec : {M : Type 1} → statement M
 changes-spec =
-    tie.close (tie.spec under-requires returns under-requires-2 returns-2 swaps-requires returns-3)
+    tie.close
+    (tie.spec
+    beside-requires
+    x-at-requires
+    add-x-at
+    x-at-requires-2
+    side-of-requires
+    swaps-requires
+    returns
+    returns-2)

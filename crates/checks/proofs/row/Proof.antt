@@ -1,47 +1,46 @@
--- `row` meets its contract: the edges looked at do not change order with e, and u is the vertex that the next one begins with.
--- Assumes nothing.
+-- `row` meets its contract: the edges looked at do not change order with e, and p is what is read of the next one's first y. Assumes nothing.
 use native.Mathlib.Omega.{arith}
 use Prim.Native.Nat.{_≤_, _-_}
 use mathlib.Core.Path.{_≡_, sym, _∙_}
 use mathlib.Core.Bool.{false}
 use Rattle.defs.specs.Meaning.Turn.{turned}
-use Rattle.outline.specs.Vertex.{VertexOf, edgeOf}
-use Rattle.outline.proofs.Vertices.{side-next}
+use Rattle.defs.specs.Computing.Vertices.{readY}
+use Rattle.outline.specs.Vertex.{edgeOf}
 use Rattle.checks.specs.Order.{rowb}
-use Rattle.checks.proofs.Pairs.{none-yet, row-more, row-hit, row-end, small-of}
+use Rattle.checks.proofs.Pairs.{none-yet, row-more, row-hit, row-end}
 use borrow.Author.Needs.{needs}
 use Rattle.checks.proofs.row.Statement.{statement}
 use Rattle.checks.proofs.row.Tie as tie
 
 abbrev Inv-loop : tie.InvT-loop
-Inv-loop o b t e i g u₀ j₀ u j = (j ≤ i) × (rowb (turned o t) (edgeOf (e .xl) (e .yl) (e .xr) (e .yr)) j ≡ false) × VertexOf o t j (u .x) (u .y)
+Inv-loop o f e i lo hi p₀ j₀ p j = (j ≤ i) × (rowb (turned o (f .turn)) (edgeOf (e .xl) (e .yl) (e .xr) (e .yr)) j ≡ false) × (p ≡ readY o (f .turn) j)
 
 abbrev μ-loop : tie.MeasureT-loop
-μ-loop o b t e i g u₀ j₀ u j = i - j
+μ-loop o f e i lo hi p₀ j₀ p j = i - j
 
-frame-of-requires : tie.Need-frame-of-requires Inv-loop μ-loop
-frame-of-requires c κs = search needs
+less-requires : tie.Need-less-requires Inv-loop μ-loop
+less-requires c κs = search needs
 
-vertex-in-requires : tie.Need-vertex-in-requires Inv-loop μ-loop
-vertex-in-requires c κs = let p = c .before .before .pre in (p .0, (p .1 .0, ((p .1 .1 .0 .0, omega (arith, p .0 .some)), c .frame-of .ensures)))
+more-requires : tie.Need-more-requires Inv-loop μ-loop
+more-requires c κs = search needs
+
+y-at-requires : tie.Need-y-at-requires Inv-loop μ-loop
+y-at-requires c κs = let p = c .before .before .before .pre in (p .1 .0, omega (arith, p .0 .some))
 
 loop-holds : tie.Need-loop-holds Inv-loop μ-loop
-loop-holds c = (search needs, none-yet _ _, c .vertex-in .ensures)
+loop-holds c = (omega arith, none-yet _ _, c .y-at .ensures)
 
-add-vertex-in : tie.Need-add-vertex-in Inv-loop μ-loop
-add-vertex-in c = search needs
+add-y-at : tie.Need-add-y-at Inv-loop μ-loop
+add-y-at c = search needs
 
-vertex-in-requires-2 : tie.Need-vertex-in-requires-2 Inv-loop μ-loop
-vertex-in-requires-2 c κs = let p = c .before .before .before .before .before .pre in (p .0, (p .1 .0, ((p .1 .1 .0 .0, omega (arith, c .loop-test .taken, p .1 .1 .0 .1)), c .before .before .before .frame-of .ensures)))
-
-side-of-requires : tie.Need-side-of-requires Inv-loop μ-loop
-side-of-requires c κs = search needs
+y-at-requires-2 : tie.Need-y-at-requires-2 Inv-loop μ-loop
+y-at-requires-2 c κs = let p = c .before .before .before .before .before .before .pre in (p .1 .0, omega (arith, c .loop-test .taken, p .1 .1 .0))
 
 changes-requires : tie.Need-changes-requires Inv-loop μ-loop
-changes-requires c κs = (c .before .before .before .before .before .before .before .pre .1 .1 .1, small-of (side-next (omega (arith, c .before .before .loop-test .taken, c .before .before .before .before .before .before .before .pre .1 .1 .0 .1)) (c .before .before .before .loop .inv .2) (c .before .vertex-in2 .ensures) (c .side-of .ensures)))
+changes-requires c κs = let p = c .before .before .before .before .before .before .before .pre in (p .0, (p .1 .0, (p .1 .1 .1, ((c .before .before .before .before .before .less .ensures, c .before .before .before .before .more .ensures), (omega (arith, c .before .loop-test .taken, p .1 .1 .0), c .before .before .loop .inv .2, c .y-at2 .ensures)))))
 
 returns : tie.Need-returns Inv-loop μ-loop
-returns c = sym (row-hit _ _ _ _ _ (c .before .before .before .before .loop-test .taken) (side-next (omega (arith, c .before .before .before .before .loop-test .taken, c .before .before .before .before .before .before .before .before .before .pre .1 .1 .0 .1)) (c .before .before .before .before .before .loop .inv .2) (c .before .before .before .vertex-in2 .ensures) (c .before .before .side-of .ensures)) (sym (c .before .changes .ensures) ∙ c .if1 .taken))
+returns c = sym (row-hit _ _ _ _ (c .before .before .before .loop-test .taken) (sym (c .before .changes .ensures) ∙ c .if1 .taken))
 
 add-j : tie.Need-add-j Inv-loop μ-loop
 add-j c = search needs
@@ -50,7 +49,7 @@ loop-less : tie.Need-loop-less Inv-loop μ-loop
 loop-less c = search needs
 
 loop-again : tie.Need-loop-again Inv-loop μ-loop
-loop-again c = (search needs, row-more _ _ _ _ (c .before .before .before .before .before .loop .inv .1) (side-next (omega (arith, c .before .before .before .before .loop-test .taken, c .before .before .before .before .before .before .before .before .before .pre .1 .1 .0 .1)) (c .before .before .before .before .before .loop .inv .2) (c .before .before .before .vertex-in2 .ensures) (c .before .before .side-of .ensures)) (sym (c .before .changes .ensures) ∙ c .if1 .left), c .before .before .before .vertex-in2 .ensures)
+loop-again c = (search needs, row-more _ _ _ (c .before .before .before .before .loop .inv .1) (sym (c .before .changes .ensures) ∙ c .if1 .left), c .before .before .y-at2 .ensures)
 
 returns-2 : tie.Need-returns-2 Inv-loop μ-loop
 returns-2 c = row-end _ _ (c .before .loop .inv .1) (omega arith)
@@ -61,12 +60,12 @@ row-spec =
     (tie.spec
     Inv-loop
     μ-loop
-    frame-of-requires
-    vertex-in-requires
+    less-requires
+    more-requires
+    y-at-requires
     loop-holds
-    add-vertex-in
-    vertex-in-requires-2
-    side-of-requires
+    add-y-at
+    y-at-requires-2
     changes-requires
     returns
     add-j

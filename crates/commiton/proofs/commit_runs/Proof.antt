@@ -8,19 +8,18 @@ use Rattle.commiton.proofs.Answers.{lent, turn-most, keeps, resolution,
 use Rattle.commiton.proofs.commit_runs.Statement.{statement}
 use Rattle.commiton.proofs.commit_runs.Tie as tie
 
-bounds-of-requires : tie.Need-bounds-of-requires
-bounds-of-requires c κs = lent (c .before .before .before .before .before .before .before .before .pre .1)
-
 extent-of-requires : tie.Need-extent-of-requires
-extent-of-requires c κs = (lent (c .before .before .before .before .before .before .before .before .before .pre .1), (c .bounds-of .ensures, turn-most (c .before .before .before .before .before .before .before .before .before .pre .1)))
+extent-of-requires c κs =
+    let pre = c .before .before .before .before .before .before .before .before .pre in
+    (omega (arith, lent (pre .1 .0) .some), (pre .1 .1, turn-most (pre .1 .0)))
 
-put-runs-requires : tie.Need-put-runs-requires
-put-runs-requires c κs =
-    let pre = c .before .before .before .before .before .before .before .before .before .before .before .pre in (
-      lent (pre .1),
+put-turn-requires : tie.Need-put-turn-requires
+put-turn-requires c κs =
+    let pre = c .before .before .before .before .before .before .before .before .before .before .pre in (
+      lent (pre .1 .0),
       (
-        c .before .before .bounds-of .ensures,
-        ((turn-most (pre .1), c .before .extent-of .ensures .0), (keeps (pre .1), (resolution (pre .0), pre .0 .gap))),
+        pre .1 .1,
+        ((turn-most (pre .1 .0), c .before .extent-of .ensures .0), (keeps (pre .1 .0), (resolution (pre .0), pre .0 .gap))),
       ),
     )
 
@@ -32,10 +31,10 @@ same-length c = search needs
 
 returns : tie.Need-returns
 returns c =
-    let pre = c .before .before .before .before .before .before .before .before .before .before .before .before .before .before .before .before .pre in
+    let pre = c .before .before .before .before .before .before .before .before .before .before .before .before .before .before .before .pre in
     refused-on (c .refused .ensures)
-    (eleven _ _ _ _ _ _ _ _ _ (pre .1 .none-no) (pre .0 .limits .resolution .at-least)
-    (sym (c .before .before .before .before .put-runs .ensures .count) ∙ c .before .if1 .taken))
+    (eleven _ _ _ _ _ _ _ _ _ (pre .1 .0 .none-no) (pre .0 .limits .resolution .at-least)
+    (sym (c .before .before .before .before .put-turn .ensures .count) ∙ c .before .if1 .taken))
 
 refused-requires-2 : tie.Need-refused-requires-2
 refused-requires-2 c κs = search needs
@@ -45,10 +44,10 @@ same-length-2 c = search needs
 
 returns-2 : tie.Need-returns-2
 returns-2 c =
-    let pre = c .before .before .before .before .before .before .before .before .before .before .before .before .before .before .before .before .before .pre in
-    let put = c .before .before .before .before .before .put-runs .ensures in
+    let pre = c .before .before .before .before .before .before .before .before .before .before .before .before .before .before .before .before .pre in
+    let put = c .before .before .before .before .before .put-turn .ensures in
     refused-on (c .refused2 .ensures)
-    (twelve _ _ _ _ _ _ _ _ _ (pre .1 .none-no) (pre .0 .limits .resolution .at-least)
+    (twelve _ _ _ _ _ _ _ _ _ (pre .1 .0 .none-no) (pre .0 .limits .resolution .at-least)
     (omega (arith, put .count, c .before .before .if1 .left))
     (omega (arith, put .count, put .long, c .before .if2 .taken)))
 
@@ -56,21 +55,21 @@ cast-t21 : tie.Need-cast-t21
 cast-t21 c = search needs
 
 columns-for-requires : tie.Need-columns-for-requires
-columns-for-requires c κs = c .before .before .before .before .before .before .before .before .before .before .before .before .before .before .before .before .before .pre .0 .limits .resolution .at-least
+columns-for-requires c κs = c .before .before .before .before .before .before .before .before .before .before .before .before .before .before .before .before .pre .0 .limits .resolution .at-least
 
 cast-fits-at : tie.Need-cast-fits-at
 cast-fits-at c = search needs
 
 fits-at-requires : tie.Need-fits-at-requires
 fits-at-requires c κs =
-    let pre = c .before .before .before .before .before .before .before .before .before .before .before .before .before .before .before .before .before .before .before .before .pre in
-    let bounds = c .before .before .before .before .before .before .before .before .before .before .before .bounds-of .ensures in
-    let put = c .before .before .before .before .before .before .before .before .put-runs .ensures in
+    let pre = c .before .before .before .before .before .before .before .before .before .before .before .before .before .before .before .before .before .before .before .pre in
+    let bounds = pre .1 .1 in
+    let put = c .before .before .before .before .before .before .before .before .put-turn .ensures in
     let room = c .before .before .before .before .if2 .left in
     let extent = c .before .before .before .before .before .before .before .before .before .before .extent-of .ensures in
     let columns = c .before .before .columns-for .ensures in (
-      frame (c .before .before .before .before .before .before .before .before .before .before .before .before .before .before .before .before .before .before .before .before .args .p)
-          (pre .0 .gap) (pre .0 .table) (pre .1) bounds put room (extent .0) columns (extent .1),
+      frame (c .before .before .before .before .before .before .before .before .before .before .before .before .before .before .before .before .before .before .before .args .p)
+          (pre .0 .gap) (pre .0 .table) (pre .1 .0) bounds put room (extent .0) columns (extent .1),
       pre .0 .limits .width .at-most,
     )
 
@@ -82,33 +81,33 @@ same-length-3 c = search needs
 
 returns-3 : tie.Need-returns-3
 returns-3 c =
-    let pre = c .before .before .before .before .before .before .before .before .before .before .before .before .before .before .before .before .before .before .before .before .before .before .before .pre in
-    let bounds = c .before .before .before .before .before .before .before .before .before .before .before .before .before .before .bounds-of .ensures in
-    let put = c .before .before .before .before .before .before .before .before .before .before .before .put-runs .ensures in
+    let pre = c .before .before .before .before .before .before .before .before .before .before .before .before .before .before .before .before .before .before .before .before .before .before .pre in
+    let bounds = pre .1 .1 in
+    let put = c .before .before .before .before .before .before .before .before .before .before .before .put-turn .ensures in
     let room = c .before .before .before .before .before .before .before .if2 .left in
     let extent = c .before .before .before .before .before .before .before .before .before .before .before .before .before .extent-of .ensures in
     let columns = c .before .before .before .before .before .columns-for .ensures in
-    let free = tested (c .before .before .before .before .before .before .before .before .before .before .before .before .before .before .before .before .before .before .before .before .before .before .before .args .p)
-    (pre .0 .gap) (pre .0 .table) (pre .1) bounds put room (extent .0) columns (extent .1)
+    let free = tested (c .before .before .before .before .before .before .before .before .before .before .before .before .before .before .before .before .before .before .before .before .before .before .args .p)
+    (pre .0 .gap) (pre .0 .table) (pre .1 .0) bounds put room (extent .0) columns (extent .1)
     (c .before .before .fits-at .ensures) in
     refused-on (c .refused3 .ensures)
-    (eighteen _ _ _ _ _ _ _ _ _ (pre .1 .none-no) (pre .0 .limits .resolution .at-least)
+    (eighteen _ _ _ _ _ _ _ _ _ (pre .1 .0 .none-no) (pre .0 .limits .resolution .at-least)
     (omega (arith, put .count, c .before .before .before .before .before .before .before .before .if1 .left))
     (omega (arith, put .count, put .long, room))
     (sym free ∙ not-true _ (c .before .if3 .taken)))
 
 enter-at-requires : tie.Need-enter-at-requires
 enter-at-requires c κs =
-    let pre = c .before .before .before .before .before .before .before .before .before .before .before .before .before .before .before .before .before .before .before .before .before .before .before .before .before .before .pre in
-    let bounds = c .before .before .before .before .before .before .before .before .before .before .before .before .before .before .before .before .before .bounds-of .ensures in
-    let put = c .before .before .before .before .before .before .before .before .before .before .before .before .before .before .put-runs .ensures in
+    let pre = c .before .before .before .before .before .before .before .before .before .before .before .before .before .before .before .before .before .before .before .before .before .before .before .before .before .pre in
+    let bounds = pre .1 .1 in
+    let put = c .before .before .before .before .before .before .before .before .before .before .before .before .before .before .put-turn .ensures in
     let room = c .before .before .before .before .before .before .before .before .before .before .if2 .left in
     let extent = c .before .before .before .before .before .before .before .before .before .before .before .before .before .before .before .before .extent-of .ensures in
     let columns = c .before .before .before .before .before .before .before .before .columns-for .ensures in (
       pre .0,
       (
-        enterable (c .before .before .before .before .before .before .before .before .before .before .before .before .before .before .before .before .before .before .before .before .before .before .before .before .before .before .args .p)
-            (pre .0 .gap) (pre .0 .table) (pre .1) bounds put room (extent .0) columns (extent .1)
+        enterable (c .before .before .before .before .before .before .before .before .before .before .before .before .before .before .before .before .before .before .before .before .before .before .before .before .before .args .p)
+            (pre .0 .gap) (pre .0 .table) (pre .1 .0) bounds put room (extent .0) columns (extent .1)
             (c .before .before .before .before .before .fits-at .ensures)
             (not-false _ (c .before .before .before .before .if3 .left)) (search needs),
         put-kept put,
@@ -129,17 +128,17 @@ same-length-7 c = search needs
 
 returns-4 : tie.Need-returns-4
 returns-4 c =
-    let pre = c .before .before .before .before .before .before .before .before .before .before .before .before .before .before .before .before .before .before .before .before .before .before .before .before .before .before .before .before .before .before .before .before .before .before .before .pre in
-    let bounds = c .before .before .before .before .before .before .before .before .before .before .before .before .before .before .before .before .before .before .before .before .before .before .before .before .before .before .bounds-of .ensures in
-    let put = c .before .before .before .before .before .before .before .before .before .before .before .before .before .before .before .before .before .before .before .before .before .before .before .put-runs .ensures in
+    let pre = c .before .before .before .before .before .before .before .before .before .before .before .before .before .before .before .before .before .before .before .before .before .before .before .before .before .before .before .before .before .before .before .before .before .before .pre in
+    let bounds = pre .1 .1 in
+    let put = c .before .before .before .before .before .before .before .before .before .before .before .before .before .before .before .before .before .before .before .before .before .before .before .put-turn .ensures in
     let room = c .before .before .before .before .before .before .before .before .before .before .before .before .before .before .before .before .before .before .before .if2 .left in
     let extent = c .before .before .before .before .before .before .before .before .before .before .before .before .before .before .before .before .before .before .before .before .before .before .before .before .before .extent-of .ensures in
     let columns = c .before .before .before .before .before .before .before .before .before .before .before .before .before .before .before .before .before .columns-for .ensures in
-    let free = tested (c .before .before .before .before .before .before .before .before .before .before .before .before .before .before .before .before .before .before .before .before .before .before .before .before .before .before .before .before .before .before .before .before .before .before .before .args .p)
-    (pre .0 .gap) (pre .0 .table) (pre .1) bounds put room (extent .0) columns (extent .1)
+    let free = tested (c .before .before .before .before .before .before .before .before .before .before .before .before .before .before .before .before .before .before .before .before .before .before .before .before .before .before .before .before .before .before .before .before .before .before .args .p)
+    (pre .0 .gap) (pre .0 .table) (pre .1 .0) bounds put room (extent .0) columns (extent .1)
     (c .before .before .before .before .before .before .before .before .before .before .before .before .before .before .fits-at .ensures) in
     entered-on (c .before .before .before .before .before .before .before .before .enter-at .ensures)
-    (fourteen _ _ _ _ _ _ _ _ _ (pre .1 .none-no) (pre .0 .limits .resolution .at-least)
+    (fourteen _ _ _ _ _ _ _ _ _ (pre .1 .0 .none-no) (pre .0 .limits .resolution .at-least)
     (omega (arith, put .count, c .before .before .before .before .before .before .before .before .before .before .before .before .before .before .before .before .before .before .before .before .if1 .left))
     (omega (arith, put .count, put .long, room))
     (sym free ∙ not-false _ (c .before .before .before .before .before .before .before .before .before .before .before .before .before .if3 .left)))
@@ -148,9 +147,8 @@ pub commit-runs-spec : {M : Type 1} → statement M
 commit-runs-spec =
     tie.close
     (tie.spec
-    bounds-of-requires
     extent-of-requires
-    put-runs-requires
+    put-turn-requires
     refused-requires
     same-length
     returns

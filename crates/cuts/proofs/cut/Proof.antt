@@ -7,24 +7,22 @@ use Rattle.defs.specs.Meaning.Outline.{sides}
 use Rattle.defs.specs.Meaning.Turn.{turned}
 use Rattle.cuts.specs.Cut.{CutAt}
 use Rattle.cuts.proofs.Ends.{cut-none, cut-more, cut-end}
+use Rattle.outline.proofs.Vertices.{turned-x}
 use borrow.Author.Needs.{needs}
 use Rattle.cuts.proofs.cut.Statement.{statement}
 use Rattle.cuts.proofs.cut.Tie as tie
 
 abbrev Inv-loop : tie.InvT-loop
-Inv-loop o b t a to n f r₀ i₀ r i = (i ≤ n) × (n ≡ sides o) × CutAt (turned o t) a i r
+Inv-loop o f a to n r₀ i₀ r i = (i ≤ n) × (n ≡ sides o) × CutAt (turned o (f .turn)) a i r
 
 abbrev μ-loop : tie.MeasureT-loop
-μ-loop o b t a to n f r₀ i₀ r i = n - i
-
-frame-of-requires : tie.Need-frame-of-requires Inv-loop μ-loop
-frame-of-requires c κs = search needs
+μ-loop o f a to n r₀ i₀ r i = n - i
 
 loop-holds : tie.Need-loop-holds Inv-loop μ-loop
-loop-holds c = (search needs, search needs, cut-none _ _ _ (c .before .before .pre .1 .1 .1))
+loop-holds c = (search needs, search needs, cut-none _ _ _ (c .before .pre .1 .1))
 
-vertex-in-requires : tie.Need-vertex-in-requires Inv-loop μ-loop
-vertex-in-requires c κs = let p = c .before .before .before .before .pre in (p .0, (p .1 .0, ((p .1 .1 .0, omega (arith, c .loop-test .taken, c .before .loop .inv .1)), c .before .before .frame-of .ensures)))
+x-at-requires : tie.Need-x-at-requires Inv-loop μ-loop
+x-at-requires c κs = let p = c .before .before .before .pre in (p .1 .0, omega (arith, c .loop-test .taken, c .before .loop .inv .1))
 
 nearer-requires : tie.Need-nearer-requires Inv-loop μ-loop
 nearer-requires c κs = search needs
@@ -36,7 +34,7 @@ loop-less : tie.Need-loop-less Inv-loop μ-loop
 loop-less c = search needs
 
 loop-again : tie.Need-loop-again Inv-loop μ-loop
-loop-again c = (search needs, search needs, cut-more (c .before .before .before .loop .inv .2) (c .before .vertex-in .ensures) (c .nearer .ensures))
+loop-again c = (search needs, search needs, cut-more (c .before .before .before .loop .inv .2) (turned-x (c .before .before .before .before .before .pre .1 .0) (omega (arith, c .before .before .loop-test .taken, c .before .before .before .loop .inv .1)) (c .before .x-at .ensures)) (c .nearer .ensures))
 
 returns : tie.Need-returns Inv-loop μ-loop
 returns c = cut-end (c .before .loop .inv .2) (omega arith)
@@ -47,9 +45,8 @@ cut-spec =
     (tie.spec
     Inv-loop
     μ-loop
-    frame-of-requires
     loop-holds
-    vertex-in-requires
+    x-at-requires
     nearer-requires
     add-i
     loop-less

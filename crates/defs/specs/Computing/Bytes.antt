@@ -58,10 +58,12 @@ pub record OnBytes (Step : List ℕ → List ℕ → List ℕ → List ℕ → L
   pub work-left : work' ≡ bytesLeft work (cleared (wordsIn work))
 
 abbrev pub PlaceBytesStep : List ℕ → List ℕ → ℕ → List ℕ → Placing → ℕ → List ℕ → List ℕ → Type 0
-PlaceBytesStep strip o mask work a tries strip' work' = OnBytes (λ s v w s' w'. PlaceStep s v mask w a tries s' w') strip o work strip' work'
+PlaceBytesStep strip o mask work a tries strip' work' =
+    OnBytes (λ s v w s' w'. PlaceStep s v mask w a tries s' w') strip o work strip' work'
 
 abbrev pub AskBytesStep : List ℕ → List ℕ → ℕ → List ℕ → Asking → ℕ → List ℕ → List ℕ → Type 0
-AskBytesStep strip o mask work a tries strip' work' = OnBytes (λ s v w s' w'. AskStep s v mask w a tries s' w') strip o work strip' work'
+AskBytesStep strip o mask work a tries strip' work' =
+    OnBytes (λ s v w s' w'. AskStep s v mask w a tries s' w') strip o work strip' work'
 
 abbrev pub CommitBytesStep : List ℕ → List ℕ → Position → List ℕ → Committing → List ℕ → List ℕ → Type 0
 CommitBytesStep strip o p work a strip' work' = OnBytes (λ s v w s' w'. CommitStep s v p w a s' w') strip o work strip' work'

@@ -7,6 +7,7 @@ use Rattle.defs.specs.Computing.Cells.{higher, notHigher, reaches, rises
 use Rattle.defs.specs.Computing.Words.{widthb, resolutionb, columnsb, gapb, limitsb, limitsNo, figuresNo, recordsOf, lengthb, occurrences, inColumnb, isFreeb, concat, wellFormedb, rowsOf, runsOf, columnsRuns, heads, columnWords, runWords, freeWords, written}
 use Rattle.defs.specs.Computing.Search.{meets, freeb, dropN, firstFree, beats, better, bestBelow, enteredColumn, enteredFrom, entered}
 use Rattle.defs.specs.Computing.Walk.{lowestMet, clashOr, clashIn, firstOf, firstClash, goesOn, heightsFrom, heightsIn, columnsFrom, turnWalk, freeAmong, endFrom, walkEnd, triesIn, someHeight, columnsTried, triesBelow, pairsBelow, triesBound}
+use Rattle.defs.specs.Computing.Vertices.{leastN, mostN, cornerX, cornerY, readX, readY}
 use Rattle.defs.specs.Computing.Calls.{q7b, q8b, q9b, q11b, q12b, q14b, q18b, outlineNo, openAnswer, coverAnswer, choose, placeOn, placeAnswer, askAnswer, triesOn, placeTries, commitOn, commitAnswer, rowsWords, runsWords, coverOutput, openedStrip, placedStrip, placeAll, listAnswers, triesAll, listTries}
 use Rattle.defs.specs.Computing.Sheets.{q1b, q2b, q6b, pieceRecords, verticesOf, pieceOf, sheetPieceNo, firstNo, sheetNo, sheetPieces, readAnswer, readOutput, outlineBytes, verticesBytes, piecesBytes, verticesIn, listTails, q7Listb, listPieceNo, listPieces, q6Listb, listNo, writeAnswer, writeOutput}
 use Rattle.defs.specs.Computing.Lay.{heldAfter, entriesFrom, heldFrom, placedIn, usedIn, entriesWords, layEntries, layAnswer, layOutput}
@@ -15,5 +16,5 @@ use Rattle.defs.specs.Computing.Text.{digits, decimal, spaced, line, ent
 use Rattle.defs.specs.Computing.Bytes.{wordsIn, wordBytes, oddByte, bytesLeft}
 
 unfoldable pub runs : Unit {0}
-unfolding edgeAt height passesBelow passesThrough countTo countBelow changeOrder quarters sent least outlineFrom turned greatest extentX extentY moved endColumn top outlineBytes verticesBytes piecesBytes verticesIn anyTo allTo any all listFrom firstFrom chainBy endsBy higher notHigher reaches rises openAbove opens unitsb raisedb coveredb keepsOrderb joinRow stretches inRows pieceRuns countRuns allowedb ordersb mostRuns widthb resolutionb columnsb gapb limitsb limitsNo figuresNo recordsOf lengthb occurrences inColumnb isFreeb concat wellFormedb rowsOf runsOf columnsRuns heads columnWords runWords freeWords written meets freeb dropN firstFree beats better bestBelow enteredColumn enteredFrom entered lowestMet clashOr clashIn firstOf firstClash goesOn heightsFrom heightsIn columnsFrom turnWalk freeAmong endFrom walkEnd triesIn someHeight columnsTried triesBelow pairsBelow triesBound q7b q8b q9b q11b q12b q14b q18b outlineNo openAnswer coverAnswer choose placeOn placeAnswer askAnswer triesOn placeTries commitOn commitAnswer rowsWords runsWords coverOutput openedStrip placedStrip placeAll listAnswers triesAll listTries q1b q2b q6b pieceRecords verticesOf pieceOf sheetPieceNo firstNo sheetNo sheetPieces readAnswer readOutput listTails q7Listb listPieceNo listPieces q6Listb listNo writeAnswer writeOutput heldAfter entriesFrom heldFrom placedIn usedIn entriesWords layEntries layAnswer layOutput ascii digits decimal spaced line entryLine entryLines layText wordsIn wordBytes oddByte bytesLeft
+unfolding edgeAt height passesBelow passesThrough countTo countBelow changeOrder quarters sent least outlineFrom turned greatest extentX extentY moved endColumn top outlineBytes verticesBytes piecesBytes verticesIn anyTo allTo any all listFrom firstFrom chainBy endsBy higher notHigher reaches rises openAbove opens unitsb raisedb coveredb keepsOrderb joinRow stretches inRows pieceRuns countRuns allowedb ordersb mostRuns widthb resolutionb columnsb gapb limitsb limitsNo figuresNo recordsOf lengthb occurrences inColumnb isFreeb concat wellFormedb rowsOf runsOf columnsRuns heads columnWords runWords freeWords written meets freeb dropN firstFree beats better bestBelow enteredColumn enteredFrom entered lowestMet clashOr clashIn firstOf firstClash goesOn heightsFrom heightsIn columnsFrom turnWalk freeAmong endFrom walkEnd triesIn someHeight columnsTried triesBelow pairsBelow triesBound leastN mostN cornerX cornerY readX readY q7b q8b q9b q11b q12b q14b q18b outlineNo openAnswer coverAnswer choose placeOn placeAnswer askAnswer triesOn placeTries commitOn commitAnswer rowsWords runsWords coverOutput openedStrip placedStrip placeAll listAnswers triesAll listTries q1b q2b q6b pieceRecords verticesOf pieceOf sheetPieceNo firstNo sheetNo sheetPieces readAnswer readOutput listTails q7Listb listPieceNo listPieces q6Listb listNo writeAnswer writeOutput heldAfter entriesFrom heldFrom placedIn usedIn entriesWords layEntries layAnswer layOutput ascii digits decimal spaced line entryLine entryLines layText wordsIn wordBytes oddByte bytesLeft
 runs = tt

@@ -1,5 +1,5 @@
 -- A strip's words, computed: well formed, the runs of its columns, and one way to write them. Assumes nothing.
-use mathlib.Core.Bool.{Bool, cond, not, _&&_, _||_}
+use mathlib.Core.Bool.{Bool, cond, _&&_, _||_}
 use mathlib.Core.List.{List, [], _∷_, _++_}
 use Prim.Native.Nat.{ℕ, zero, suc, _+_, _*_, _-_, _/_}
 use lib.Dec.{ltb, leb, eqb}

@@ -10,11 +10,8 @@ use Rattle.fates.proofs.end_of.Tie as tie
 enum-known-a : tie.Need-enum-known-a
 enum-known-a c = search needs
 
-bounds-of-requires : tie.Need-bounds-of-requires
-bounds-of-requires c κs = search needs
-
 extent-of-requires : tie.Need-extent-of-requires
-extent-of-requires c κs = (c .before .before .before .before .before .pre .0, (c .bounds-of .ensures, (c .before .before .before .before .before .pre .1 .1 _ (c .before .before .a .given .1)) .0))
+extent-of-requires c κs = let p = c .before .before .before .before .pre in (omega (arith, p .0 .some), (p .1 .0, (p .1 .1 .1 _ (c .before .a .given .1)) .0))
 
 cast-result : tie.Need-cast-result
 cast-result c = search needs
@@ -23,13 +20,13 @@ columns-for-requires : tie.Need-columns-for-requires
 columns-for-requires c κs = search needs
 
 add-result : tie.Need-add-result
-add-result c = omega (arith, end-is (c .before .before .before .before .before .before .before .before .args .o .now) (c .before .before .before .before .before .before .before .before .args .r) (c .before .before .before .before .before .a .given .0 .0) (c .before .before .extent-of .ensures .0) (c .columns-for .ensures), (c .before .before .before .before .before .before .before .before .pre .1 .1 _ (c .before .before .before .before .before .a .given .1)) .1)
+add-result c = omega (arith, end-is (c .before .before .before .before .before .before .before .args .o .now) (c .before .before .before .before .before .before .before .args .r) (c .before .before .before .before .a .given .0 .0) (c .before .before .extent-of .ensures .0) (c .columns-for .ensures), (c .before .before .before .before .before .before .before .pre .1 .1 .1 _ (c .before .before .before .before .a .given .1)) .1)
 
 enum-known-a-2 : tie.Need-enum-known-a-2
 enum-known-a-2 c = search needs
 
 returns : tie.Need-returns
-returns c = end-is (c .before .before .before .before .before .before .before .before .args .o .now) (c .before .before .before .before .before .before .before .before .args .r) (c .before .before .before .before .before .a .given .0 .0) (c .before .before .extent-of .ensures .0) (c .columns-for .ensures) ∙ ap (endOf _ _) (sym (c .before .before .before .before .before .a .given .1))
+returns c = end-is (c .before .before .before .before .before .before .before .args .o .now) (c .before .before .before .before .before .before .before .args .r) (c .before .before .before .before .a .given .0 .0) (c .before .before .extent-of .ensures .0) (c .columns-for .ensures) ∙ ap (endOf _ _) (sym (c .before .before .before .before .a .given .1))
 
 returns-2 : tie.Need-returns-2
 returns-2 c = search needs
@@ -39,7 +36,6 @@ end-of-spec =
     tie.close
     (tie.spec
     enum-known-a
-    bounds-of-requires
     extent-of-requires
     cast-result
     columns-for-requires

@@ -32,10 +32,10 @@ slice-aggregate-column-7 : tie.Need-slice-aggregate-column-7
 slice-aggregate-column-7 c = search needs
 
 column-requires : tie.Need-column-requires
-column-requires c κs = let p = c .before .before .before .before .before .before .before .before .before .pre in (p .0, (p .1 .0, ((p .1 .1 .0 .0, omega arith), (p .1 .1 .1, new-work _ (c .before .before .before .before .before .before .before .none .ensures .1) (c .before .before .before .before .before .before .before .none .ensures .3) refl refl refl refl refl refl refl))))
+column-requires c κs = let p = c .before .before .before .before .before .before .before .before .before .pre in (p .0, (p .1 .0, (omega arith, (p .1 .1 .1, new-work _ (c .before .before .before .before .before .before .before .none .ensures .1) (c .before .before .before .before .before .before .before .none .ensures .3) refl refl refl refl refl refl refl))))
 
 returns : tie.Need-returns
-returns c = let p = c .before .before .before .before .before .before .before .before .before .before .before .before .before .before .before .before .before .before .pre in one-column _ _ (p .0) (p .1 .1 .1) (p .1 .1 .0 .1) (c .before .before .before .before .before .before .before .before .column .ensures)
+returns c = let p = c .before .before .before .before .before .before .before .before .before .before .before .before .before .before .before .before .before .before .pre in one-column _ _ (p .0) (p .1 .1 .1) (p .1 .1 .0) (c .before .before .before .before .before .before .before .before .column .ensures)
 
 pub has-run-spec : {M : Type 1} → statement M
 has-run-spec =

@@ -1,22 +1,27 @@
 -- An outline that passes 7 and 8 has edges. Assumes nothing.
 use native.Mathlib.Omega.{arith}
-use Rattle.laws.proofs.Tests.{said-yes}
-use Rattle.checks.proofs.Turned.{lent-of}
+use Rattle.checks.proofs.Bounded.{lent-by}
 use borrow.Author.Needs.{needs}
 use Rattle.notes.proofs.edge_numbered.Statement.{statement}
 use Rattle.notes.proofs.edge_numbered.Tie as tie
 
-seven-requires : tie.Need-seven-requires
-seven-requires c κs = search needs
-
 returns : tie.Need-returns
 returns c = search needs
 
-eight-requires : tie.Need-eight-requires
-eight-requires c κs = search needs
-
 returns-2 : tie.Need-returns-2
 returns-2 c = search needs
+
+bounds-requires : tie.Need-bounds-requires
+bounds-requires c κs = search needs
+
+enum-told : tie.Need-enum-told
+enum-told c = search needs
+
+enum-told-2 : tie.Need-enum-told-2
+enum-told-2 c = search needs
+
+edge-requires : tie.Need-edge-requires
+edge-requires c κs = let p = rw (c .enum-told2 .given .1) at (c .before .before .bounds .ensures) in (lent-by _ (p .0), omega arith)
 
 returns-3 : tie.Need-returns-3
 returns-3 c = search needs
@@ -24,21 +29,15 @@ returns-3 c = search needs
 returns-4 : tie.Need-returns-4
 returns-4 c = search needs
 
-edge-requires : tie.Need-edge-requires
-edge-requires c κs = (lent-of _ (said-yes (c .before .before .before .before .before .seven .ensures) (c .before .before .before .before .if1 .left)) (said-yes (c .before .before .before .eight .ensures) (c .before .before .if2 .left)), omega arith)
-
-returns-5 : tie.Need-returns-5
-returns-5 c = search needs
-
 pub edge-numbered-spec : {M : Type 1} → statement M
 edge-numbered-spec =
     tie.close
     (tie.spec
-    seven-requires
     returns
-    eight-requires
     returns-2
-    returns-3
-    returns-4
+    bounds-requires
+    enum-told
+    enum-told-2
     edge-requires
-    returns-5)
+    returns-3
+    returns-4)

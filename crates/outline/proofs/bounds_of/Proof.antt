@@ -3,7 +3,7 @@ use native.Mathlib.Omega.{arith}
 use Prim.Native.Nat.{_≤_, _-_}
 use mathlib.Core.Path.{_≡_}
 use Rattle.defs.specs.Meaning.Outline.{vx, vy, sides}
-use Rattle.laws.proofs.Turns.{leastN, mostN}
+use Rattle.defs.specs.Computing.Vertices.{leastN, mostN}
 use Rattle.outline.proofs.Vertices.{least-one, most-one, least-more, most-more}
 use borrow.Author.Needs.{needs}
 use Rattle.outline.proofs.bounds_of.Statement.{statement}

@@ -1,28 +1,39 @@
 -- The answer, its entry and its tally. Assumes nothing.
 use native.Mathlib.Omega.{arith}
-use Rattle.checks.proofs.Turned.{lent-of}
+use Rattle.checks.proofs.Bounded.{has-vertex, lent-of}
 use Rattle.piece.proofs.Currents.{end-fits, place-ends, piece-laid}
 use borrow.Author.Needs.{needs}
 use Rattle.piece.proofs.lay_outline.Statement.{statement}
 use Rattle.piece.proofs.lay_outline.Tie as tie
 
+bounds-of-requires : tie.Need-bounds-of-requires
+bounds-of-requires c κs = has-vertex _ (c .before .before .before .before .before .before .before .before .before .pre .1 .0 .seven)
+
 place-current-requires : tie.Need-place-current-requires
-place-current-requires c κs = let pre = c .before .before .before .before .before .before .before .before .before .before .before .before .before .before .before .before .pre in (pre .0, (pre .1 .0, pre .1 .1 .1 .1))
+place-current-requires c κs = let pre = c .before .before .before .before .before .before .before .before .before .before .before .before .before .before .before .before .before .pre in (pre .0, (pre .1 .0, (c .before .before .before .before .before .before .before .bounds-of .ensures, pre .1 .1 .1 .1)))
 
 end-of-requires : tie.Need-end-of-requires
-end-of-requires c κs = (lent-of _ (c .before .before .before .before .before .before .before .before .before .before .before .before .before .before .before .before .before .before .before .before .before .before .before .before .before .before .before .before .before .before .before .pre .1 .0 .seven) (c .before .before .before .before .before .before .before .before .before .before .before .before .before .before .before .before .before .before .before .before .before .before .before .before .before .before .before .before .before .before .before .pre .1 .0 .eight), (c .before .before .before .before .before .before .before .before .before .before .before .before .before .before .before .before .before .before .before .before .before .before .before .before .before .before .before .before .before .before .before .pre .0 .limits .resolution .at-least, place-ends (c .before .before .before .before .before .before .before .before .before .before .before .before .before .before .before .before .before .before .before .before .before .before .before .before .before .before .before .before .before .before .before .pre .0 .limits) (c .before .before .before .before .before .before .before .before .before .before .before .before .before .before .place-current .ensures .fits)))
+end-of-requires c κs =
+    let pre = c .before .before .before .before .before .before .before .before .before .before .before .before .before .before .before .before .before .before .before .before .before .before .before .before .before .before .before .before .before .before .before .before .pre in
+    let y = pre .1 .0 in (
+      lent-of _ (y .seven) (y .eight),
+      (
+        c .before .before .before .before .before .before .before .before .before .before .before .before .before .before .before .before .before .before .before .before .before .before .bounds-of .ensures,
+        (pre .0 .limits .resolution .at-least, place-ends (pre .0 .limits) (c .before .before .before .before .before .before .before .before .before .before .before .before .before .before .place-current .ensures .fits)),
+      ),
+    )
 
 fate-of-requires : tie.Need-fate-of-requires
 fate-of-requires c κs = search needs
 
 put-entry-requires : tie.Need-put-entry-requires
-put-entry-requires c κs = (c .before .before .before .before .before .before .before .before .before .before .before .before .before .before .before .before .before .before .before .before .before .before .before .before .before .before .before .before .before .before .before .before .before .before .pre .1 .1 .0 .first, c .before .before .before .before .before .before .before .before .before .before .before .before .before .before .before .before .before .before .before .before .before .before .before .before .before .before .before .before .before .before .before .before .before .before .pre .1 .1 .1 .0)
+put-entry-requires c κs = (c .before .before .before .before .before .before .before .before .before .before .before .before .before .before .before .before .before .before .before .before .before .before .before .before .before .before .before .before .before .before .before .before .before .before .before .pre .1 .1 .0 .first, c .before .before .before .before .before .before .before .before .before .before .before .before .before .before .before .before .before .before .before .before .before .before .before .before .before .before .before .before .before .before .before .before .before .before .before .pre .1 .1 .1 .0)
 
 cast-counted : tie.Need-cast-counted
-cast-counted c = omega (arith, c .before .before .before .before .before .end-of .ensures, end-fits _ (c .before .before .before .before .before .before .before .before .before .before .before .before .before .before .before .before .before .before .before .before .place-current .ensures .fits), c .before .before .before .before .before .before .before .before .before .before .before .before .before .before .before .before .before .before .before .before .before .before .before .before .before .before .before .before .before .before .before .before .before .before .before .before .before .pre .0 .limits .columns .at-most)
+cast-counted c = omega (arith, c .before .before .before .before .before .end-of .ensures, end-fits _ (c .before .before .before .before .before .before .before .before .before .before .before .before .before .before .before .before .before .before .before .before .place-current .ensures .fits), c .before .before .before .before .before .before .before .before .before .before .before .before .before .before .before .before .before .before .before .before .before .before .before .before .before .before .before .before .before .before .before .before .before .before .before .before .before .before .pre .0 .limits .columns .at-most)
 
 counted-requires : tie.Need-counted-requires
-counted-requires c κs = (c .before .before .before .before .before .before .before .before .before .before .before .before .before .before .before .before .before .before .before .before .before .before .before .before .before .before .before .before .before .before .before .before .before .before .before .before .before .pre .1 .1 .0, c .before .before .before .before .before .before .before .before .before .before .before .before .before .before .before .before .before .before .before .before .before .before .before .before .before .before .before .before .before .before .before .before .before .before .before .before .before .pre .0 .limits .columns .at-most)
+counted-requires c κs = (c .before .before .before .before .before .before .before .before .before .before .before .before .before .before .before .before .before .before .before .before .before .before .before .before .before .before .before .before .before .before .before .before .before .before .before .before .before .before .pre .1 .1 .0, c .before .before .before .before .before .before .before .before .before .before .before .before .before .before .before .before .before .before .before .before .before .before .before .before .before .before .before .before .before .before .before .before .before .before .before .before .before .before .pre .0 .limits .columns .at-most)
 
 same-length : tie.Need-same-length
 same-length c = search needs
@@ -55,6 +66,7 @@ pub lay-outline-spec : {M : Type 1} → statement M
 lay-outline-spec =
     tie.close
     (tie.spec
+    bounds-of-requires
     place-current-requires
     end-of-requires
     fate-of-requires

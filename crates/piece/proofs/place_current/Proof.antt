@@ -7,13 +7,13 @@ use Rattle.piece.proofs.place_current.Tie as tie
 place-asked-requires : tie.Need-place-asked-requires
 place-asked-requires c κs = (
   tabled (swapped (rw (c .before .before .before .before .before .before .before .if1 .taken) at (c .before .before .before .before .before .before .before .before .before .before .before .before .before .before .before .before .pre .0))),
-  (c .before .before .before .before .before .before .before .before .before .before .before .before .before .before .before .before .pre .1 .0, rw (c .before .before .before .before .before .before .before .if1 .taken) at (c .before .before .before .before .before .before .before .before .before .before .before .before .before .before .before .before .pre .1 .1)),
+  (c .before .before .before .before .before .before .before .before .before .before .before .before .before .before .before .before .pre .1 .0, (c .before .before .before .before .before .before .before .before .before .before .before .before .before .before .before .before .pre .1 .1 .0, rw (c .before .before .before .before .before .before .before .if1 .taken) at (c .before .before .before .before .before .before .before .before .before .before .before .before .before .before .before .before .pre .1 .1 .1))),
 )
 
 place-asked-requires-2 : tie.Need-place-asked-requires-2
 place-asked-requires-2 c κs = (
   tabled (rw (c .before .before .before .before .before .before .before .if1 .left) at (c .before .before .before .before .before .before .before .before .before .before .before .before .before .before .before .before .pre .0)),
-  (c .before .before .before .before .before .before .before .before .before .before .before .before .before .before .before .before .pre .1 .0, rw (c .before .before .before .before .before .before .before .if1 .left) at (c .before .before .before .before .before .before .before .before .before .before .before .before .before .before .before .before .pre .1 .1)),
+  (c .before .before .before .before .before .before .before .before .before .before .before .before .before .before .before .before .pre .1 .0, (c .before .before .before .before .before .before .before .before .before .before .before .before .before .before .before .before .pre .1 .1 .0, rw (c .before .before .before .before .before .before .before .if1 .left) at (c .before .before .before .before .before .before .before .before .before .before .before .before .before .before .before .before .pre .1 .1 .1))),
 )
 
 same-length : tie.Need-same-length

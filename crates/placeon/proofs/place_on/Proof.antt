@@ -8,23 +8,23 @@ use Rattle.placeon.proofs.place_on.Tie as tie
 nine-requires : tie.Need-nine-requires
 nine-requires c κs = search needs
 
-order-no-requires : tie.Need-order-no-requires
-order-no-requires c κs = search needs
+order-requires : tie.Need-order-requires
+order-requires c κs = search needs
+
+enum-known-n : tie.Need-enum-known-n
+enum-known-n c = search needs
 
 untried-requires : tie.Need-untried-requires
 untried-requires c κs = search needs
 
-returns : tie.Need-returns
-returns c = untried-on _ (c .untried .ensures) (to-ten _ _ _ _ _ _ _ _ _ (c .before .before .before .before .before .before .before .before .before .before .before .before .pre .limits .resolution .at-least) (refused-to-ten _ _ (c .before .before .before .nine .ensures) (c .before .before .order-no .ensures) (c .before .if1 .taken)) (c .before .if1 .taken))
+enum-known-b : tie.Need-enum-known-b
+enum-known-b c = search needs
 
 place-asked-requires : tie.Need-place-asked-requires
-place-asked-requires c κs = (
-  c .before .before .before .before .before .before .before .before .before .before .before .before .before .before .before .pre,
-  (
-    passed _ _ (c .before .before .before .before .before .before .nine .ensures) (c .before .before .before .before .before .order-no .ensures) (c .before .before .before .before .if1 .left),
-    none-before-0 _ _ _ _ _ _ _,
-  ),
-)
+place-asked-requires c κs = let p = rw (c .before .before .before .before .before .b .given .1) at (c .before .before .before .before .before .before .before .order .ensures) in (c .before .before .before .before .before .before .before .before .before .before .before .before .before .before .before .before .before .pre, (passed _ _ (c .before .before .before .before .before .before .before .before .nine .ensures) (p .0), (p .1, none-before-0 _ _ _ _ _ _ _)))
+
+returns : tie.Need-returns
+returns c = let p = rw (c .before .before .n .given .1) at (c .before .before .before .before .order .ensures) in untried-on _ (c .untried .ensures) (to-ten _ _ _ _ _ _ _ _ _ (c .before .before .before .before .before .before .before .before .before .before .before .before .before .before .pre .limits .resolution .at-least) (refused-to-ten _ _ (c .before .before .before .before .before .nine .ensures) (p .0) (p .1)) (p .1))
 
 same-length : tie.Need-same-length
 same-length c = search needs
@@ -46,10 +46,12 @@ place-on-spec =
     tie.close
     (tie.spec
     nine-requires
-    order-no-requires
+    order-requires
+    enum-known-n
     untried-requires
-    returns
+    enum-known-b
     place-asked-requires
+    returns
     same-length
     same-length-2
     same-length-3

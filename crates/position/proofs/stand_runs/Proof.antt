@@ -10,8 +10,8 @@ returns c = kept-stand (c .before .before .before .before .pre .1 .1 .1 .1 .2) (
 extent-of-requires : tie.Need-extent-of-requires
 extent-of-requires c κs = search needs
 
-put-runs-requires : tie.Need-put-runs-requires
-put-runs-requires c κs =
+put-turn-requires : tie.Need-put-turn-requires
+put-turn-requires c κs =
     let pre = c .before .before .before .before .before .before .pre in (
       pre .0,
       (pre .1 .0, ((pre .1 .1 .0 .0, c .before .extent-of .ensures .0), (pre .1 .1 .1 .0, (pre .1 .1 .1 .1 .0, pre .1 .1 .1 .1 .1)))),
@@ -21,8 +21,8 @@ same-length : tie.Need-same-length
 same-length c = search needs
 
 returns-2 : tie.Need-returns-2
-returns-2 c = put-stand (c .before .before .put-runs .ensures) (c .before .before .before .before .before .before .before .before .before .pre .1 .1 .0 .1)
+returns-2 c = put-stand (c .before .before .put-turn .ensures) (c .before .before .before .before .before .before .before .before .before .pre .1 .1 .0 .1)
 
 pub stand-runs-spec : {M : Type 1} → statement M
 stand-runs-spec =
-    tie.close (tie.spec returns extent-of-requires put-runs-requires same-length returns-2)
+    tie.close (tie.spec returns extent-of-requires put-turn-requires same-length returns-2)

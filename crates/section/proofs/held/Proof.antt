@@ -17,7 +17,7 @@ next-slab-requires : tie.Need-next-slab-requires
 next-slab-requires c κs =
     let p = c .before .before .before .before .before .before .before .before .before .before .pre in
     let s = p .1 .1 .1 .1 in
-    (p .0, (p .1 .0, (p .1 .1 .1 .0, (c .before .before .before .slab-end .ensures, (p .1 .1 .0 .0, s .left, s .right, s .wide)))))
+    (p .0, (p .1 .0, (p .1 .1 .1 .0, (c .before .before .before .slab-end .ensures, (s .left, s .right, s .wide)))))
 
 same-length : tie.Need-same-length
 same-length c = search needs

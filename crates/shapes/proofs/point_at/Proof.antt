@@ -11,7 +11,7 @@ moved-requires : tie.Need-moved-requires
 moved-requires c κs = search needs
 
 returns : tie.Need-returns
-returns c = point-is (c .before .before .before .pre .1 .1 .1) (c .before .vertex-at .ensures) (c .moved .ensures .0) (c .moved .ensures .1)
+returns c = let p = c .before .before .before .pre in point-is (p .1 .1 .1) (p .1 .1 .0) (c .before .vertex-at .ensures) (c .moved .ensures .0) (c .moved .ensures .1)
 
 pub point-at-spec : {M : Type 1} → statement M
 point-at-spec = tie.close (tie.spec vertex-at-requires moved-requires returns)

@@ -8,10 +8,10 @@ use Rattle.shapes.proofs.put_edges.Statement.{statement}
 use Rattle.shapes.proofs.put_edges.Tie as tie
 
 abbrev Inv-loop : tie.InvT-loop
-Inv-loop out₀ at o b r p font n i₀ to₀ out i to = (length out ≡ length out₀) × (i ≤ n) × (n ≡ sides o)
+Inv-loop out₀ at o f r p font n i₀ to₀ out i to = (length out ≡ length out₀) × (i ≤ n) × (n ≡ sides o)
 
 abbrev μ-loop : tie.MeasureT-loop
-μ-loop out₀ at o b r p font n i₀ to₀ out i to = n - i
+μ-loop out₀ at o f r p font n i₀ to₀ out i to = n - i
 
 loop-holds : tie.Need-loop-holds Inv-loop μ-loop
 loop-holds c = search needs

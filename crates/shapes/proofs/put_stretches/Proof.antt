@@ -1,27 +1,28 @@
--- An outline that passes 7 and 8 can be read through a turn. Assumes nothing.
-use Rattle.laws.proofs.Tests.{said-yes}
-use Rattle.checks.proofs.Turned.{lent-of}
+-- What a placed piece has. Assumes nothing.
 use borrow.Author.Needs.{needs}
 use Rattle.shapes.proofs.put_stretches.Statement.{statement}
 use Rattle.shapes.proofs.put_stretches.Tie as tie
 
-seven-requires : tie.Need-seven-requires
-seven-requires c κs = search needs
+draws-twice-requires : tie.Need-draws-twice-requires
+draws-twice-requires c κs = search needs
 
 returns : tie.Need-returns
 returns c = search needs
 
-eight-requires : tie.Need-eight-requires
-eight-requires c κs = search needs
+placed-bounds-requires : tie.Need-placed-bounds-requires
+placed-bounds-requires c κs = search needs
+
+enum-told : tie.Need-enum-told
+enum-told c = search needs
+
+enum-known-b : tie.Need-enum-known-b
+enum-known-b c = search needs
+
+put-dashed-requires : tie.Need-put-dashed-requires
+put-dashed-requires c κs = rw (c .before .before .b .given .1) at (c .before .before .before .before .placed-bounds .ensures)
 
 returns-2 : tie.Need-returns-2
 returns-2 c = search needs
-
-draws-twice-requires : tie.Need-draws-twice-requires
-draws-twice-requires c κs = search needs
-
-put-dashed-requires : tie.Need-put-dashed-requires
-put-dashed-requires c κs = (lent-of _ (said-yes (c .before .before .before .before .before .before .before .before .seven .ensures) (c .before .before .before .before .before .before .before .if1 .left)) (said-yes (c .before .before .before .before .before .before .eight .ensures) (c .before .before .before .before .before .if2 .left)), search needs)
 
 same-length : tie.Need-same-length
 same-length c = search needs
@@ -29,23 +30,16 @@ same-length c = search needs
 returns-3 : tie.Need-returns-3
 returns-3 c = search needs
 
-returns-4 : tie.Need-returns-4
-returns-4 c = search needs
-
-returns-5 : tie.Need-returns-5
-returns-5 c = search needs
-
 pub put-stretches-spec : {M : Type 1} → statement M
 put-stretches-spec =
     tie.close
     (tie.spec
-    seven-requires
-    returns
-    eight-requires
-    returns-2
     draws-twice-requires
+    returns
+    placed-bounds-requires
+    enum-told
+    enum-known-b
     put-dashed-requires
+    returns-2
     same-length
-    returns-3
-    returns-4
-    returns-5)
+    returns-3)

@@ -8,10 +8,10 @@ use Rattle.stretch.proofs.longest_from.Statement.{statement}
 use Rattle.stretch.proofs.longest_from.Tie as tie
 
 abbrev Inv-loop : tie.InvT-loop
-Inv-loop o b t i n e s₀ j₀ s j = (j ≤ n) × (n ≡ sides o)
+Inv-loop o f i n e s₀ j₀ s j = (j ≤ n) × (n ≡ sides o)
 
 abbrev μ-loop : tie.MeasureT-loop
-μ-loop o b t i n e s₀ j₀ s j = n - j
+μ-loop o f i n e s₀ j₀ s j = n - j
 
 side-at-requires : tie.Need-side-at-requires Inv-loop μ-loop
 side-at-requires c κs = search needs
