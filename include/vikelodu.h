@@ -1,12 +1,12 @@
 /*
  * Vikelodu: outlines laid on a strip of board.
  *
- * A strip is opened once and then takes one piece after another. Each piece goes to the free position that ends in the least
- * column, then lowest, then in the least turn; a program may also see that position before the piece is laid, and lay the piece
- * there or at another free position. A strip may have a gap, which is kept between its pieces. A job sheet carries the figures of a
- * strip and a cut list of pieces as bytes; a list is read from it and written to it, and a whole job is laid from it in one call. An
- * outline is also read from a path of a drawing program and written as one. Every call says what became of it: granted, or refused
- * with the number of the question that got "no".
+ * A strip is opened once and then takes one piece after another. Each piece goes to the free position whose right edge is least
+ * (column * resolution + the extent of the turned outline), then lowest, then in the least turn; a program may also see that position
+ * before the piece is laid, and lay the piece there or at another free position. A strip may have a gap, which is kept between its
+ * pieces. A job sheet carries the figures of a strip and a cut list of pieces as bytes; a list is read from it and written to it, and a
+ * whole job is laid from it in one call. An outline is also read from a path of a drawing program and written as one. Every call says
+ * what became of it: granted, or refused with the number of the question that got "no".
  *
  * Answers
  *
@@ -64,16 +64,19 @@
 /*
  * The edition of this header. A call that takes or returns something else than before has another name in the library, so that a
  * program compiled against an older header does not link; compiled against this one it calls it by the name it had. Edition 4 has the
- * gap as an argument more in the calls that open, cover and lay, edition 5 the tries beside the answer in those that place and ask. The
- * calls that commit have kept their names: a strip of the older form, with four leading words, has another length than one of this form
- * with as many columns, for any number of records, and gets 5.
+ * gap as an argument more in the calls that open, cover and lay, edition 5 the tries beside the answer in those that place and ask,
+ * edition 7 the used length in the answer of those that lay, in the place of the used columns; there is no edition 6. The calls that
+ * commit have kept their names: a strip of the older form, with four leading words, has another length than one of this form with as
+ * many columns, for any number of records, and gets 5. Since edition 7 turns are compared by the right edge, where it was the last
+ * column: the calls that place and ask may answer another turn than before, and have kept their names, as they take and return the
+ * same.
  */
-#define VIKELODU_EDITION 5
+#define VIKELODU_EDITION 7
 #define vikelodu_open vikelodu_open_4
 #define vikelodu_cover vikelodu_cover_4
-#define vikelodu_lay vikelodu_lay_4
+#define vikelodu_lay vikelodu_lay_7
 #define vikelodu_open_bytes vikelodu_open_bytes_4
-#define vikelodu_lay_bytes vikelodu_lay_bytes_4
+#define vikelodu_lay_bytes vikelodu_lay_bytes_7
 #define vikelodu_place vikelodu_place_5
 #define vikelodu_ask vikelodu_ask_5
 #define vikelodu_place_bytes vikelodu_place_bytes_5
@@ -203,7 +206,10 @@ uint64_t vikelodu_open(uint16_t width, uint16_t resolution, uint16_t columns, ui
  * Turn t is t quarter turns counter-clockwise, moved so that the least x and the least y are 0.
  *
  * Refused with 5, ordinal 0, or with 7 to 14, ordinal 1. Granted, the answer has the turn, the column and the height: the turned
- * outline lies column * resolution units to the right and height units up.
+ * outline lies column * resolution units to the right and height units up. With its greatest x as w and its greatest y as h, the
+ * position's right edge is column * resolution + w and its top height + h. The best of the free positions is the one with the least
+ * right edge; among equal ones that with the least top, and then that in the least turn. In each turn it is the least column, and
+ * there the least height.
  *
  * The tries say how much looking was done, which is the cost of a resolution. Each allowed turn is walked column by column, as far as
  * the outline is on the strip, up to its first free position, also where another turn wins. In each column height 0 is tried first.
@@ -226,7 +232,8 @@ vikelodu_tried vikelodu_place(uint16_t *strip, size_t strip_words, const uint16_
                               uint16_t *work, size_t work_words);
 
 /*
- * Looks where vikelodu_place would lay a piece, and lays nothing.
+ * Looks where vikelodu_place would lay a piece, at the free position with the least right edge, then lowest, then in the least turn, and
+ * lays nothing.
  *
  *   strip                 as in vikelodu_place; no word of it is changed
  *   outline, mask, work   as in vikelodu_place; all words of work are 0 after the call
@@ -341,8 +348,14 @@ uint64_t vikelodu_write(uint16_t width, uint16_t resolution, uint16_t columns, c
  * keep their words, and all words of the work buffer are 0. The columns of a sheet are in its bytes 8 and 9, and vikelodu_read
  * answers them.
  *
- * Granted, the answer has the number of pieces placed and the used columns: one more than the last column of the piece that ends
- * farthest to the right, without the gap, 0 if none is placed. The output has four words for each piece, in the order of the chain:
+ * Granted, the answer has the number of pieces placed and the used length: the greatest right edge of the placed pieces, as in
+ * vikelodu_place, without the gap, and 0 if none is placed. It is in units, at most columns * resolution, and has 32 bits, as it may be
+ * over 65,535. The board that the job takes, in millimetres:
+ *
+ *   if (vikelodu_number(answer) == VIKELODU_GRANTED)
+ *       printf("%d pieces on %.3f mm of board\n", vikelodu_placed(answer), vikelodu_used_length(answer) / 8.0);
+ *
+ * The output has four words for each piece, in the order of the chain:
  *
  *   a piece that is placed    0, its turn, its column, its height, as vikelodu_place answers them
  *   a piece that is refused   12, 13 or 14, and three times 0
@@ -470,9 +483,13 @@ static inline uint32_t vikelodu_size(uint64_t answer) { return (uint32_t)(answer
 /* Of a granted vikelodu_read_path: the words of the outline. */
 static inline uint32_t vikelodu_words(uint64_t answer) { return (uint32_t)(answer >> 32); }
 
-/* Of a granted vikelodu_lay: the pieces placed, and the used columns. */
+/* Of a granted vikelodu_lay: the pieces placed, and the used length in units of 1/8 mm. */
 static inline uint16_t vikelodu_placed(uint64_t answer) { return (uint16_t)(answer >> 16); }
-static inline uint16_t vikelodu_used(uint64_t answer) { return (uint16_t)(answer >> 32); }
+static inline uint32_t vikelodu_used_length(uint64_t answer) { return (uint32_t)(answer >> 32); }
+
+/* Before edition 7 vikelodu_used gave the used columns. A program that took a length for columns would cut wrong, so one that still
+   has this name does not compile, and the message says what to write. */
+#define vikelodu_used(answer) vikelodu_used_columns_are_gone_use_vikelodu_used_length
 
 /* Of a granted vikelodu_retrace: the first two edges that share a stretch, 0 and 0 where there are none. */
 static inline uint16_t vikelodu_first_edge(uint64_t answer) { return (uint16_t)(answer >> 16); }

@@ -277,6 +277,31 @@ static void test_turns(void) {
     drop(strip);
 }
 
+/* Turns are compared by the right edge, column * resolution + w; then by the top, height + h; then the least turn. */
+static void test_order_of_turns(void) {
+    static const uint16_t box[] = {0, 0, 5, 0, 5, 6, 0, 6};
+    static const uint16_t small[] = {0, 0, 2, 0, 2, 2, 0, 2};
+    static const uint16_t bar[] = {0, 0, 4, 0, 4, 2, 0, 2};
+    struct buffer strip = opened(10, 4, 10, 6);
+    /* Turns 0 and 1 both end in column 1, at 5 and at 6 units; turn 1 has the lower top. */
+    ASK("where a box would go by its right edge", strip, box, 3, 6, placed(0, 0, 0));
+    PLACE("a box by its right edge", strip, box, 3, 6, placed(0, 0, 0));
+    expect_run(strip, 0, 0, 6);
+    expect_run(strip, 1, 0, 6);
+    drop(strip);
+    strip = opened(6, 2, 10, 8);
+    PLACE("a square", strip, square, 1, 6, placed(0, 0, 0));
+    PLACE("a small one on it", strip, small, 1, 3, placed(0, 0, 4));
+    /* Turn 0 in column 1 at height 4 and turn 1 in column 2 at height 0 both end at 6 units, with tops at 6 and at 4. */
+    ASK("where a bar would go by its top", strip, bar, 3, 6, placed(1, 2, 0));
+    PLACE("a bar by its top", strip, bar, 3, 6, placed(1, 2, 0));
+    expect_run(strip, 2, 0, 4);
+    drop(strip);
+    strip = opened(10, 2, 10, 6);
+    PLACE("a square in the least turn", strip, square, 12, 6, placed(2, 0, 0));
+    drop(strip);
+}
+
 /* ----------------------------------------------------------------- refusals */
 
 static void test_ill_formed_strips(void) {
@@ -1142,7 +1167,19 @@ static const uint8_t three_squares[] = {
     1,    0,    1, 0, 0,  0,                                                        /* piece 3 */
 };
 
-static uint64_t laid(uint64_t pieces, uint64_t columns) { return pieces << 16 | columns << 32; }
+/* W 1, R 400, N 4,096; five bars of 16,000 by 1 that share their vertex records, mask 1. */
+static const uint8_t five_bars[] = {
+    0x4E, 0x4A, 1, 0, 1, 0, 0x90, 1,    0, 0x10, 1, 0, 4,    0,    5, 0,                         /* front */
+    0,    0,    0, 0, 2, 0, 0x80, 0x3E, 0, 0,    3, 0, 0x80, 0x3E, 1, 0, 4, 0, 0, 0, 1, 0, 0, 0, /* vertices 1 to 4 */
+    1,    0,    1, 0, 2, 0,                                                                      /* piece 1 */
+    1,    0,    1, 0, 3, 0,                                                                      /* piece 2 */
+    1,    0,    1, 0, 4, 0,                                                                      /* piece 3 */
+    1,    0,    1, 0, 5, 0,                                                                      /* piece 4 */
+    1,    0,    1, 0, 0, 0,                                                                      /* piece 5 */
+};
+
+/* Pieces placed, and used length. */
+static uint64_t laid(uint64_t pieces, uint64_t length) { return pieces << 16 | length << 32; }
 
 /* The buffers of one lay call. */
 struct job {
@@ -1212,7 +1249,7 @@ static void test_lay(void) {
     size_t size = sizeof three_squares;
     expect("words", WORDS(all_placed), VIKELODU_LAY_WORDS(3));
     for (size_t i = 0; i < WORDS(outputs); i++) {
-        struct job made = lay("three squares", three_squares, size, VIKELODU_STRIP_WORDS(10, 4), outputs[i], 6, laid(3, 4),
+        struct job made = lay("three squares", three_squares, size, VIKELODU_STRIP_WORDS(10, 4), outputs[i], 6, laid(3, 8),
                               all_placed, 12);
         expect_run(made.strip, 0, 0, 8);
         expect_run(made.strip, 1, 0, 8);
@@ -1222,7 +1259,7 @@ static void test_lay(void) {
         PLACE("a fourth square", made.strip, square, 1, 6, placed(0, 2, 4));
         drop_job(made);
     }
-    struct job made = lay("a record too few", three_squares, size, VIKELODU_STRIP_WORDS(10, 3), 12, 6, laid(2, 2),
+    struct job made = lay("a record too few", three_squares, size, VIKELODU_STRIP_WORDS(10, 3), 12, 6, laid(2, 4),
                           third_refused, 12);
     expect_run(made.strip, 0, 0, 8);
     expect_run(made.strip, 1, 0, 8);
@@ -1236,11 +1273,33 @@ static void test_lay(void) {
     drop_job(made);
 }
 
-/* The used columns are the outlines' own. */
+/* The used length is counted in units and has 32 bits: five bars one after another, each over 40 columns. */
+static void test_used_length(void) {
+    static const uint16_t in_a_row[] = {0, 0, 0, 0, 0, 0, 40, 0, 0, 0, 80, 0, 0, 0, 120, 0, 0, 0, 160, 0};
+    static const uint16_t four_of_them[] = {0, 0, 0, 0, 0, 0, 40, 0, 0, 0, 80, 0, 0, 0, 120, 0, 14, 0, 0, 0};
+    size_t size = sizeof five_bars;
+    struct job made = lay("80,000 units", five_bars, size, VIKELODU_STRIP_WORDS(4096, 200), 20, 120, laid(5, 80000), in_a_row,
+                          20);
+    expect_run(made.strip, 199, 0, 1);
+    expect("column 200", made.strip.words[HEADS + 200], 0);
+    drop_job(made);
+    drop_job(lay("64,000 units", five_bars, size, VIKELODU_STRIP_WORDS(4096, 199), 20, 120, laid(4, 64000), four_of_them, 20));
+
+    /* A piece that ends within a column counts up to its right edge, not to the column's end. */
+    static const uint8_t triangle[] = {
+        0x4E, 0x4A, 1, 0, 2, 0, 2, 0, 10, 0, 1, 0, 3, 0, 1, 0,       /* W 2, R 2, N 10 */
+        0,    0,    0, 0, 2, 0, 3, 0, 0,  0, 3, 0, 3, 0, 2, 0, 0, 0, /* 0, 0; 3, 0; 3, 2 */
+        1,    0,    1, 0, 0, 0,
+    };
+    static const uint16_t at_0[] = {0, 0, 0, 0};
+    drop_job(lay("3 units in 2 columns", triangle, sizeof triangle, VIKELODU_STRIP_WORDS(10, 6), 4, 6, laid(1, 3), at_0, 4));
+}
+
+/* The used length is that of the outlines, without the gap. */
 static void test_lay_with_gap(void) {
     static const uint16_t apart[] = {0, 0, 0, 0, 0, 0, 0, 5, 0, 0, 3, 0};
     size_t size = sizeof three_squares, words = VIKELODU_STRIP_WORDS(10, 40);
-    struct job made = lay_with_gap("squares a unit apart", 1, three_squares, size, words, 12, 9, laid(3, 5), apart, 12);
+    struct job made = lay_with_gap("squares a unit apart", 1, three_squares, size, words, 12, 9, laid(3, 10), apart, 12);
     expect("the gap", made.strip.words[GAP], 1);
     PLACE("a fourth square", made.strip, square, 1, 9, placed(0, 3, 5));
     drop_job(made);
@@ -1260,7 +1319,7 @@ static void test_lay_on_bytes(void) {
     }
     uint64_t answer = vikelodu_lay(three_squares, sizeof three_squares, 0, words[0], (STRIP + 1) / 2, words[1], (OUTPUT + 1) / 2,
                                    words[2], (WORK + 1) / 2);
-    expect("lay on bytes", answer, laid(3, 4));
+    expect("lay on bytes", answer, laid(3, 8));
     expect("width, low byte first", all[0].at[1] == 10 && all[0].at[2] == 0, 1);
     expect("second height, low byte first", all[1].at[1 + 14] == 4 && all[1].at[1 + 15] == 0, 1);
     for (size_t i = 0; i < WORK; i++) {
@@ -1430,15 +1489,16 @@ static void lay_both(const char *what, uint16_t gap, const uint8_t *sheet, size_
 
 static void test_lay_as_bytes(void) {
     size_t size = sizeof three_squares, words = VIKELODU_STRIP_WORDS(10, 4);
-    lay_both("three squares", 0, three_squares, size, words, 12, 6, laid(3, 4));
-    lay_both("the longest output and more", 0, three_squares, size, words, VIKELODU_MOST_LAY_WORDS + 9, 6, laid(3, 4));
-    lay_both("a record too few", 0, three_squares, size, VIKELODU_STRIP_WORDS(10, 3), 12, 6, laid(2, 2));
+    lay_both("three squares", 0, three_squares, size, words, 12, 6, laid(3, 8));
+    lay_both("the longest output and more", 0, three_squares, size, words, VIKELODU_MOST_LAY_WORDS + 9, 6, laid(3, 8));
+    lay_both("a record too few", 0, three_squares, size, VIKELODU_STRIP_WORDS(10, 3), 12, 6, laid(2, 4));
     lay_both("no work buffer", 0, three_squares, size, words, 12, 0, laid(0, 0));
     lay_both("cut off", 0, three_squares, size - 1, words, 12, 6, refused(VIKELODU_SHEET_LENGTH, 0));
     lay_both("a strip short by one", 0, three_squares, size, words - 1, 12, 6, refused(VIKELODU_STRIP_LENGTH, 0));
     lay_both("an output short by one", 0, three_squares, size, words, 11, 6, refused(VIKELODU_OUTPUT, 0));
-    lay_both("a unit apart", 1, three_squares, size, VIKELODU_STRIP_WORDS(10, 40), 12, 9, laid(3, 5));
-    lay_both("gap 300", 300, three_squares, size, VIKELODU_STRIP_WORDS(10, 40), 12, 456, laid(1, 2));
+    lay_both("a unit apart", 1, three_squares, size, VIKELODU_STRIP_WORDS(10, 40), 12, 9, laid(3, 10));
+    lay_both("gap 300", 300, three_squares, size, VIKELODU_STRIP_WORDS(10, 40), 12, 456, laid(1, 4));
+    lay_both("80,000 units", 0, five_bars, sizeof five_bars, VIKELODU_STRIP_WORDS(4096, 200), 20, 120, laid(5, 80000));
     lay_both("gap 401", 401, three_squares, size, words - 1, 11, 6, refused(VIKELODU_GAP, 0));
 }
 
@@ -1525,8 +1585,10 @@ static void test_accessors(void) {
     expect("columns", vikelodu_columns(two_pieces_read), 10);
     expect("size", vikelodu_size(written(65536)), 65536);
     expect("words", vikelodu_words((uint64_t)128 << 32), 128);
-    expect("placed", vikelodu_placed(laid(200, 4096)), 200);
-    expect("used", vikelodu_used(laid(200, 4096)), 4096);
+    expect("placed", vikelodu_placed(laid(200, 1638400)), 200);
+    expect("used length", vikelodu_used_length(laid(200, 1638400)), 1638400);
+    expect("placed", vikelodu_placed(laid(65535, 4294967295)), 65535);
+    expect("used length", vikelodu_used_length(laid(65535, 4294967295)), 4294967295);
     expect("first edge", vikelodu_first_edge(edges(63, 64)), 63);
     expect("second edge", vikelodu_second_edge(edges(63, 64)), 64);
 }
@@ -1537,6 +1599,7 @@ int main(void) {
     test_open();
     test_three_squares();
     test_turns();
+    test_order_of_turns();
     test_ill_formed_strips();
     test_refused_outlines();
     test_no_room();
@@ -1562,6 +1625,7 @@ int main(void) {
     test_write_path();
     test_path_round_trip();
     test_lay();
+    test_used_length();
     test_lay_with_gap();
     test_lay_on_bytes();
     test_calls_on_bytes();

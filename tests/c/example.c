@@ -56,7 +56,7 @@ static int as_a_job(void) {
             printf("%d refused %d\n", piece, entry[0]);
         }
     }
-    printf("used %d placed %d\n", vikelodu_used(answer), vikelodu_placed(answer));
+    printf("used %lu placed %d\n", (unsigned long)vikelodu_used_length(answer), vikelodu_placed(answer));
     return 0;
 }
 

@@ -65,11 +65,12 @@ pub struct Figures {
     pub columns: u16,
 }
 
-/// "The answer adds pieces placed and used columns"
+/// "The answer adds pieces placed and" used length, which by S-7 "replaces used columns
+/// in the answer": "Used length, of 32 bits, is the greatest right edge, 0 if none"
 #[derive(Clone, Copy, Debug, PartialEq, Eq)]
 pub struct Totals {
     pub placed: u16,
-    pub used: u16,
+    pub used: u32,
 }
 
 /// One piece of a cut list: its outline as words x, y, x, y and its turn mask.

@@ -1,8 +1,8 @@
 //! Laying a whole job, and the text of program `lay`.
 
 use crate::figures::*;
-use crate::outline::{columns_wide, extent, turned, vertices};
-use crate::placing::place;
+use crate::outline::{extent, turned, vertices};
+use crate::placing::{place, right_edge};
 use crate::questions::ask_21;
 use crate::sheet::{ask_head, pieces_of_sheet};
 use crate::strip::{ask_4, open, LEADING};
@@ -45,8 +45,8 @@ pub fn lay(
             Ok(position) => {
                 entry.copy_from_slice(&[0, position.turn, position.column, position.height]);
                 totals.placed += 1;
-                let end = end_column(piece, &position, resolution);
-                totals.used = totals.used.max(end);
+                let edge = right_edge_of(piece, position, resolution);
+                totals.used = totals.used.max(edge);
             }
             Err(refusal) => entry.copy_from_slice(&[refusal.number, 0, 0, 0]),
         }
@@ -54,11 +54,10 @@ pub fn lay(
     Ok(totals)
 }
 
-/// "one more than the greatest last column": one more than this piece's. S-4:
-/// "extents stay those of the outline".
-fn end_column(piece: &Piece, position: &Position, r: u16) -> u16 {
+/// The right edge of a placed piece.
+pub fn right_edge_of(piece: &Piece, position: Position, r: u16) -> u32 {
     let (w, _) = extent(&turned(&vertices(&piece.outline), position.turn));
-    position.column + columns_wide(w, i64::from(r)) as u16
+    right_edge(position.column.into(), w, r.into()) as u32
 }
 
 /// A job as program `lay` lays it.
@@ -110,7 +109,8 @@ pub fn lay_text(input: &[u8]) -> String {
 }
 
 /// "Fields: W, R, N; ordinal, turn, column, height; used columns, pieces
-/// placed. A refused piece prints `3 refused 14`"
+/// placed. A refused piece prints `3 refused 14`". S-7: used length "replaces used
+/// columns in the answer and the last line".
 fn text(job: &LaidJob) -> String {
     let (figures, totals) = (job.figures, job.totals);
     let mut lines = vec![format!(

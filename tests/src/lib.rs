@@ -1,5 +1,5 @@
 //! A reference program for document 01, the box-board nesting engine, as change
-//! requests S-1 to S-5 have changed it.
+//! requests S-1 to S-7 have changed it.
 //!
 //! It is written straight from the sentences of the two papers, which are quoted
 //! above the functions that state them, and it prefers the plain way to the

@@ -62,14 +62,14 @@ struct Picture<'a> {
 
 impl Picture<'_> {
     fn new(job: &LaidJob, gap: u16) -> Picture<'_> {
-        let [width, resolution, columns, used] = [
+        let [width, resolution, columns] = [
             job.figures.width,
             job.figures.resolution,
             job.figures.columns,
-            job.totals.used,
         ]
         .map(u64::from);
         // An eighth more than the used columns, and a quarter of the width.
+        let used = u64::from(job.totals.used).div_ceil(resolution);
         let shown = (used + used / 8 + width / 4 / resolution + 1).min(columns);
         Picture {
             job,
@@ -115,8 +115,9 @@ impl Picture<'_> {
         columns * self.resolution
     }
 
+    /// The used length, in units.
     fn used(&self) -> u64 {
-        self.units(u64::from(self.job.totals.used))
+        u64::from(self.job.totals.used)
     }
 
     fn refused(&self) -> u64 {

@@ -227,9 +227,10 @@ pub fn most_tries(board: &Board, pieces: &[TurnedPiece], pairs: usize) -> u64 {
 
 // -------------------------------------------------------------------- choice
 
-/// "Last column is c + (w/R rounded up) − 1"
-pub fn last_column(piece: &TurnedPiece, (c, _): Spot, r: i64) -> i64 {
-    c + columns_wide(piece.w, r) - 1
+/// S-7: "The right edge of a position is column × R + w." S-4: "extents stay those of the
+/// outline", so no gap is in it.
+pub fn right_edge(column: i64, w: i64, r: i64) -> i64 {
+    column * r + w
 }
 
 /// "top is y + h"
@@ -237,7 +238,7 @@ pub fn top(piece: &TurnedPiece, (_, y): Spot) -> i64 {
     y + piece.h
 }
 
-/// "among turns the least last column wins, then least top, then least turn"
+/// S-7: "Among turns the least right edge wins, then least top, then least turn."
 pub fn best<'a>(
     board: &Board,
     pieces: &'a [TurnedPiece],
@@ -248,11 +249,51 @@ pub fn best<'a>(
         .filter_map(|piece| search(board, piece).map(|spot| (piece, spot)))
         .min_by_key(|&(piece, spot)| {
             (
-                last_column(piece, spot, board.r),
+                right_edge(spot.0, piece.w, board.r),
                 top(piece, spot),
                 piece.turn,
             )
         })
+}
+
+/// How often each step of that order was needed: without it another turn would be best.
+#[derive(Clone, Copy, Debug, Default)]
+pub struct Steps {
+    /// Where document 01's order, "the least last column wins, then least top, then
+    /// least turn", gives another turn.
+    pub edge: u32,
+    pub top: u32,
+    pub turn: u32,
+}
+
+impl Steps {
+    /// Counts an outline that passes questions 7 to 11, on a strip as it stands before
+    /// the call.
+    pub fn count(&mut self, strip: &[u16], outline: &[u16], mask: u16) {
+        let board = board_of(strip);
+        let turns = turns_of_mask(mask).expect("1 to 15");
+        let found: Vec<[i64; 4]> = turns
+            .iter()
+            .map(|&turn| turned_piece(outline, turn, board.r, board.g))
+            .filter_map(|piece| {
+                let spot = least_free(&board, &piece)?;
+                let edge = right_edge(spot.0, piece.w, board.r);
+                let last_column = spot.0 + columns_wide(piece.w, board.r) - 1;
+                Some([edge, top(&piece, spot), piece.turn.into(), last_column])
+            })
+            .collect();
+        let Some(best) = found.iter().min() else {
+            return;
+        };
+        let former = found
+            .iter()
+            .min_by_key(|&[_, top, turn, last]| [last, top, turn]);
+        let without_top = found.iter().min_by_key(|&[edge, _, turn, _]| [edge, turn]);
+        let alike = found.iter().filter(|other| other[..2] == best[..2]);
+        self.edge += u32::from(former != Some(best));
+        self.top += u32::from(without_top != Some(best));
+        self.turn += u32::from(alike.count() > 1);
+    }
 }
 
 /// "the piece's cells are added, touching runs joined": the runs of each column

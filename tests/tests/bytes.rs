@@ -43,7 +43,7 @@ fn three_squares() {
     let mut laid = bytes(&other_words(strip_length(10, 4)));
     let (mut output, mut work) = (bytes(&other_words(13)), bytes(&other_words(6)));
     let answer = lay_bytes(&job, 0, &mut laid, &mut output, &mut work);
-    assert_eq!(answer, Ok(Totals { placed: 3, used: 4 }));
+    assert_eq!(answer, Ok(Totals { placed: 3, used: 8 }));
     assert_eq!(laid, strip);
     let entries = [[0, 0, 0, 0], [0, 0, 0, 4], [0, 0, 2, 0]].concat();
     let after = other_words(13)[12];

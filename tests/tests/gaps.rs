@@ -282,11 +282,11 @@ fn trial_pieces_with_a_gap() {
     for position in [at(0, 0, 0), at(0, 0, 5), at(0, 3, 0)] {
         assert_eq!(check_place(&mut strip, &S, 1, 9), Ok(position));
     }
-    // Used columns are the outline's: 3 and 2 more.
+    // Used length is the outline's: 3 columns of 2, and 4.
     let job = sheet(10, 2, 10, &[(&S, 1), (&S, 1), (&S, 1)]);
     let laid = check_lay_with_gap(&job, 1, [strip_length(10, 40), 12, 9]).unwrap();
     assert_eq!(laid.output, [0, 0, 0, 0, 0, 0, 0, 5, 0, 0, 3, 0]);
-    assert_eq!((laid.totals.placed, laid.totals.used), (3, 5));
+    assert_eq!((laid.totals.placed, laid.totals.used), (3, 10));
     assert_eq!(laid.strip, strip);
     for (n, answer) in [(7, Ok(at(0, 4, 0))), (6, Err(no(13, 1)))] {
         let mut strip = opened_with_gap(2, 1, n, 1, 40);
@@ -401,7 +401,7 @@ fn former_cells(outline: &[u16], turn: u16, r: i64) -> Cells {
         .collect()
 }
 
-/// The rule before S-4: the position, or 12, 13 or 14.
+/// The rule before S-4, with S-7's order of turns: the position, or 12, 13 or 14.
 fn former_answer(
     occupied: &Cells,
     of: StripFigures,
@@ -419,7 +419,7 @@ fn former_answer(
         let spots = (0..=n - wide).flat_map(|c| (0..=w - ph).map(move |y| (c, y)));
         let mut free = spots.filter(|&(c, y)| moved(&cells, c, y).is_disjoint(occupied));
         if let Some((c, y)) = free.next() {
-            found.push(((c + wide, y + ph, turn), (c, y), moved(&cells, c, y)));
+            found.push(((c * r + pw, y + ph, turn), (c, y), moved(&cells, c, y)));
         }
     }
     if work < 3 * most_runs {

@@ -3,7 +3,7 @@
 mod common;
 use common::*;
 use reference::generate::{job, small_gap, sound_sheet, Random};
-use reference::outline::{extent, turned, vertices};
+use reference::outline::{turned, vertices};
 use reference::{lay_text, same_strip, Refusal};
 
 /// "Lay reads a sheet, opens the lent strip and places the pieces in chain
@@ -35,9 +35,10 @@ fn lay_is_open_and_place_in_chain_order() {
                 Ok(at) => {
                     entries.extend([0, at.turn, at.column, at.height]);
                     placed += 1;
-                    let outline = turned(&vertices(&piece.outline), at.turn);
-                    let wide = (extent(&outline).0 as u16).div_ceil(r);
-                    used = used.max(at.column + wide);
+                    let moved = u32::from(at.column) * u32::from(r);
+                    for (x, _) in turned(&vertices(&piece.outline), at.turn) {
+                        used = used.max(moved + x as u32);
+                    }
                 }
                 Err(Refusal { number, ordinal }) => {
                     assert!((12..=14).contains(&number) && ordinal == 1);
@@ -94,20 +95,52 @@ fn the_text_of_random_jobs() {
     }
 }
 
-/// "used columns: one more than the greatest last column, 0 if none", which is
-/// not always that of the last piece placed.
+/// "Used length, of 32 bits, is the greatest right edge, 0 if none", which is not always
+/// that of the last piece placed.
 #[test]
-fn used_columns() {
+fn used_length() {
     let (long, block) = (rectangle(8, 2), rectangle(2, 2));
     let job = sheet(4, 2, 10, &[(&long, 1), (&block, 1)]);
     let laid = check_lay(&job, [strip_length(10, 9), 8, 90]).unwrap();
     assert_eq!(laid.output, [0, 0, 0, 0, 0, 0, 0, 2]);
-    assert_eq!((laid.totals.placed, laid.totals.used), (2, 4));
+    assert_eq!((laid.totals.placed, laid.totals.used), (2, 8));
+    // Three pieces that end in column 1 of 4 units: the second reaches farthest.
+    let ends = [rectangle(5, 2), rectangle(7, 2), rectangle(6, 2)];
+    let job = sheet(10, 4, 10, &ends.each_ref().map(|outline| (&outline[..], 1)));
+    let laid = check_lay(&job, [strip_length(10, 9), 12, 90]).unwrap();
+    assert_eq!(laid.output, [0, 0, 0, 0, 0, 0, 0, 2, 0, 0, 0, 4]);
+    assert_eq!((laid.totals.placed, laid.totals.used), (3, 7));
     // None placed.
     let job = sheet(1, 2, 10, &[(&long, 1), (&block, 1)]);
     let laid = check_lay(&job, [strip_length(10, 9), 8, 90]).unwrap();
     assert_eq!(laid.output, [13, 0, 0, 0, 13, 0, 0, 0]);
     assert_eq!((laid.totals.placed, laid.totals.used), (0, 0));
+}
+
+/// Over 16 bits: pieces of 16,000 by 1 one after another, and then as far as the longest
+/// strip goes, N × R.
+#[test]
+fn used_length_over_65_535() {
+    let (long, rest) = (rectangle(16_000, 1), rectangle(6_400, 1));
+    assert_eq!(
+        lay_text(&sheet(1, 400, 4_096, &[(&long[..], 1); 5])),
+        "strip 1 400 4096\n\
+         1 placed 0 0 0\n\
+         2 placed 0 40 0\n\
+         3 placed 0 80 0\n\
+         4 placed 0 120 0\n\
+         5 placed 0 160 0\n\
+         used 80000 placed 5\n"
+    );
+    let mut all = vec![(&long[..], 1); 103];
+    all.push((&rest, 1));
+    let job = sheet(1, 400, 4_096, &all);
+    let laid = check_lay(&job, [strip_length(4_096, 4_096), 416, 120]).unwrap();
+    assert_eq!(
+        laid.output[404..],
+        [0, 0, 4_040, 0, 13, 0, 0, 0, 0, 0, 4_080, 0]
+    );
+    assert_eq!((laid.totals.placed, laid.totals.used), (103, 1_638_400));
 }
 
 /// An empty job needs no output and no work, and opens the strip.

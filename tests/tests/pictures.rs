@@ -34,6 +34,28 @@ fn a_small_job() {
     has("<text x='0em' y='7.80em'>2 refused 13</text>");
 }
 
+/// The used part ends at the used length, not at the end of its last column; the columns
+/// that are shown are by the latter.
+#[test]
+fn a_used_length_within_a_column() {
+    // 5 units end in the second column of 4: 2 columns, none of an eighth, 2 of a quarter
+    // of the width, and 1.
+    let picture = draw(&sheet(40, 4, 20, &[(&rectangle(5, 6), 1)]));
+    let has = |words: &str| assert!(picture.contains(words), "{words} in\n{picture}");
+    has("<rect class='board' y='-4000' width='2000' height='4000'/>");
+    has("<rect class='used' y='-4000' width='500' height='4000'/>");
+    has("<path class='end' d='M500 0V-4000'/>");
+    has(" x2='500'/><text class='middle' y='-1.2em' x='250'>0.625 mm</text></g>");
+    has("<text y='3.4em'>used 0.625 mm of 10 mm, width 5 mm</text>");
+    // 4 units end with the first column, 3 within it: one column less is shown.
+    for long in [4, 3] {
+        let picture = draw(&sheet(40, 4, 20, &[(&rectangle(long, 6), 1)]));
+        assert!(picture.contains("<rect class='board' y='-4000' width='1600' height='4000'/>"));
+        let used = format!("<rect class='used' y='-4000' width='{long}00' height='4000'/>");
+        assert!(picture.contains(&used), "{picture}");
+    }
+}
+
 /// A square of 4 by 4 units with a spur to x = 8: the spur is drawn to and fro, so it is
 /// dashed twice, over the piece.
 #[test]

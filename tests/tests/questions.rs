@@ -859,19 +859,19 @@ fn lay_12_13_14_as_fates() {
     let job = sheet(10, 2, 10, &[(&S, 1), (&long, 1), (&S, 1)]);
     let laid = check_lay(&job, [ROOM[0], 12, 14]).unwrap();
     assert_eq!(laid.output, [0, 0, 0, 0, 12, 0, 0, 0, 0, 0, 0, 4]);
-    assert_eq!((laid.totals.placed, laid.totals.used), (2, 2));
+    assert_eq!((laid.totals.placed, laid.totals.used), (2, 4));
     // 1 by 11 is higher than the strip.
     let high = rectangle(1, 11);
     let job = sheet(10, 2, 10, &[(&high, 1), (&S, 1)]);
     let laid = check_lay(&job, ROOM).unwrap();
     assert_eq!(laid.output[..8], [13, 0, 0, 0, 0, 0, 0, 0]);
     assert_eq!(laid.output[8..], other_words(900)[8..]);
-    assert_eq!((laid.totals.placed, laid.totals.used), (1, 2));
+    assert_eq!((laid.totals.placed, laid.totals.used), (1, 4));
     // 10 by 2 makes five runs, Q is 4.
     let job = sheet(10, 2, 10, &[(&long, 1), (&S, 1)]);
     let laid = check_lay(&job, [strip_length(10, 4), 8, 90]).unwrap();
     assert_eq!(laid.output, [14, 0, 0, 0, 0, 0, 0, 0]);
-    assert_eq!((laid.totals.placed, laid.totals.used), (1, 2));
+    assert_eq!((laid.totals.placed, laid.totals.used), (1, 4));
 }
 
 /// The chain order, not the record number, is the ordinal.

@@ -41,7 +41,7 @@ fn a3_repeated_edges() {
 const SPUR: [u16; 14] = [0, 0, 2, 0, 2, 1, 6, 1, 2, 1, 2, 2, 0, 2];
 
 /// The extent is that of all vertices. A spur must fit on the strip and counts
-/// for last column, top and used columns; it may lie over other pieces.
+/// for right edge, top and used length; it may lie over other pieces.
 #[test]
 fn a8_spurs() {
     assert_eq!(columns_of(&SPUR, 0, 2), [[(0, 2)]]);
@@ -51,10 +51,10 @@ fn a8_spurs() {
     let mut strip = opened(2, 2, 3, 6);
     assert_eq!(check_place(&mut strip, &SPUR, 1, 90), Ok(at(0, 0, 0)));
     assert_eq!(strip_runs(&strip), [vec![(0, 2)], vec![], vec![]]);
-    // Used columns count the spur.
+    // Used length counts the spur.
     let job = sheet(2, 2, 5, &[(&SPUR, 1)]);
     let laid = check_lay(&job, [strip_length(5, 6), 4, 90]).unwrap();
-    assert_eq!((laid.totals.placed, laid.totals.used), (1, 3));
+    assert_eq!((laid.totals.placed, laid.totals.used), (1, 6));
     // It lies over taken cells, and others may be put over it.
     let mut strip = strip_of(2, 2, 6, &[&[], &[(0, 2)], &[(0, 2)]]);
     assert_eq!(check_place(&mut strip, &SPUR, 1, 90), Ok(at(0, 0, 0)));
@@ -297,15 +297,21 @@ fn c1_column_before_height() {
     assert_eq!(check_place(&mut strip, &block, 1, 3), Ok(at(0, 1, 0)));
 }
 
-/// Among turns the last column decides, not the right edge; then the top, then
+/// S-7: among turns the right edge decides, not the last column; then the top, then
 /// the turn.
 #[test]
-fn c4_last_column_not_right_edge() {
-    // At R 10 both turns end in column 0; turn 0 is lower, though turn 1 is
-    // narrower.
+fn c4_r7_1_right_edge_not_last_column() {
+    // At R 10 both turns end in column 0; turn 1 is narrower, though turn 0 is
+    // lower.
     let mut strip = opened(10, 10, 4, 6);
     assert_eq!(
         check_place(&mut strip, &rectangle(6, 2), 3, 90),
+        Ok(at(1, 0, 0))
+    );
+    // Box 5 by 6, R 4, mask 3: both turns end in column 1.
+    let mut strip = opened(10, 4, 10, 6);
+    assert_eq!(
+        check_place(&mut strip, &rectangle(5, 6), 3, 90),
         Ok(at(0, 0, 0))
     );
     // The turn with the least column doesn't win: on this strip turn 1 fits in
@@ -326,13 +332,43 @@ fn c4_last_column_not_right_edge() {
         check_place(&mut strip, &rectangle(6, 2), 12, 90),
         Ok(at(3, 0, 0))
     );
-    // The top is y + h, not y: both turns of 2 by 3 go to column 0 and height
-    // 4, and turn 1 is the lower one.
-    let mut strip = strip_of(9, 3, 6, &[&[(0, 4)], &[]]);
+    // The top is y + h, not y: of 4 by 2, turn 0 ends at 6 in column 1 and height 4,
+    // turn 1 ends there in column 2 and height 3, and turn 0 is the lower one.
+    let taken: [&[(u16, u16)]; 3] = [&[(0, 8)], &[(0, 4), (6, 8)], &[(0, 3)]];
+    let mut strip = strip_of(8, 2, 9, &taken);
     assert_eq!(
-        check_place(&mut strip, &rectangle(2, 3), 3, 90),
-        Ok(at(1, 0, 4))
+        check_place(&mut strip, &rectangle(4, 2), 3, 90),
+        Ok(at(0, 1, 4))
     );
+}
+
+/// Right edges that are equal: the lower top wins against a lesser turn. Beside S and a
+/// square of 2 on it, 4 by 2 fits in turn 0 in column 1 at height 4, in turn 1 in
+/// column 2 at height 0, and both end at 6.
+#[test]
+fn r7_1_equal_right_edges() {
+    let (square, bar) = (rectangle(2, 2), rectangle(4, 2));
+    let mut strip = opened(6, 2, 10, 8);
+    assert_eq!(check_place(&mut strip, &S, 1, 90), Ok(at(0, 0, 0)));
+    assert_eq!(check_place(&mut strip, &square, 1, 90), Ok(at(0, 0, 4)));
+    assert_eq!(check_ask(&strip, &bar, 1, 90), Ok(at(0, 1, 4)));
+    assert_eq!(check_ask(&strip, &bar, 2, 90), Ok(at(1, 2, 0)));
+    assert_eq!(check_place(&mut strip, &bar, 3, 90), Ok(at(1, 2, 0)));
+}
+
+/// w is the outline's extent, spur and all, without the gap.
+#[test]
+fn r7_2_extent_of_the_outline() {
+    // SPUR ends at 6 in turn 0, at 2 in turn 1; its cells end at 2 in both.
+    let mut strip = opened(6, 7, 4, 6);
+    assert_eq!(check_place(&mut strip, &SPUR, 3, 90), Ok(at(1, 0, 0)));
+    let mut strip = opened(6, 7, 4, 6);
+    assert_eq!(check_place(&mut strip, &SPUR, 1, 90), Ok(at(0, 0, 0)));
+    // With a gap of 3, 5 by 6 has cells to 8 and 9 and ends at 5 and 6.
+    let job = sheet(12, 4, 10, &[(&rectangle(5, 6), 3)]);
+    let laid = check_lay_with_gap(&job, 3, [strip_length(10, 9), 4, 90]).unwrap();
+    assert_eq!(laid.output, [0, 0, 0, 0]);
+    assert_eq!((laid.totals.placed, laid.totals.used), (1, 5));
 }
 
 // --------------------------------------------------------------------- strip

@@ -96,7 +96,7 @@ fn three_squares_with_three_records() {
     let squares = sheet(10, 2, 10, &[(&S, 1), (&S, 1), (&S, 1)]);
     let laid = check_lay(&squares, [strip_length(10, 3), 12, 6]).unwrap();
     assert_eq!(laid.output, [0, 0, 0, 0, 0, 0, 0, 4, 14, 0, 0, 0]);
-    assert_eq!((laid.totals.placed, laid.totals.used), (2, 2));
+    assert_eq!((laid.totals.placed, laid.totals.used), (2, 4));
 }
 
 #[test]
@@ -118,7 +118,7 @@ fn three_squares_with_four_records() {
     let squares = sheet(10, 2, 10, &[(&S, 1), (&S, 1), (&S, 1)]);
     let laid = check_lay(&squares, [strip_length(10, 4), 12, 6]).unwrap();
     assert_eq!(laid.output, [0, 0, 0, 0, 0, 0, 0, 4, 0, 0, 2, 0]);
-    assert_eq!((laid.totals.placed, laid.totals.used), (3, 4));
+    assert_eq!((laid.totals.placed, laid.totals.used), (3, 8));
 }
 
 #[test]
@@ -198,7 +198,7 @@ fn the_printed_example() {
          1 placed 0 0 0\n\
          2 placed 0 0 4\n\
          3 placed 0 2 0\n\
-         used 4 placed 3\n"
+         used 8 placed 3\n"
     );
     // The same job with one vertex chain shared by all three.
     let shared: [u8; 16 + 6 * 4 + 6 * 3] = [

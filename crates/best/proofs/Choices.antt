@@ -4,11 +4,12 @@ use mathlib.Core.Path.{_≡_, refl, sym, ap, ap₂, subst, _∙_}
 use mathlib.Core.Bool.{Bool, true, false, cond}
 use mathlib.Core.List.{List}
 use mathlib.Core.Option.{Option, none, some}
-use Prim.Native.Nat.{ℕ, suc, _+_, _≤_, _<_, max}
+use Prim.Native.Nat.{ℕ, suc, _+_, _*_, _≤_, _<_, max}
 use native.Mathlib.Omega.{arith}
+use native.Mathlib.Nat.{mul-le-mul}
 use borrow.Author.Tests.{ne-eqb, le-ltb}
 use Rattle.defs.specs.declared.Position.{Position}
-use Rattle.defs.specs.Meaning.Placing.{endColumn}
+use Rattle.defs.specs.Meaning.Placing.{rightEdge}
 use Rattle.defs.specs.Computing.Cells.{Rows, pieceRuns, countRuns, allowedb, mostRuns}
 use Rattle.defs.specs.Computing.Search.{firstFree, beats, better, bestBelow}
 use Rattle.defs.specs.Computing.Walk.{turnWalk, triesIn, triesBelow}
@@ -24,7 +25,7 @@ use Rattle.ranks.specs.declared.Tried.{Tried}
 module _ (R : ℕ) (o : List ℕ) where
   beats-rank : (q p : Ranked) → RankOf R o q → RankOf R o p → beatsBy q p ≡ beats R o (q .at) (p .at)
   unfolding beats
-  beats-rank q p f g = rw (f .end, f .top, g .end, g .top) refl
+  beats-rank q p f g = rw (f .right, f .top, g .right, g .top) refl
 
   -- the better of two choices is the definition's
   better-place : (a b : Choice) → Ranks R o a → Ranks R o b → placeOf (betterBy a b) ≡ better R o (placeOf a) (placeOf b)
@@ -55,27 +56,27 @@ module _ (R : ℕ) (o : List ℕ) where
         ranks = better-ranks a b (f .ranks) (g .ranks);
       }
 
-  -- a position that ends after another does not beat it
-  later-loses : (q p : Position) → endColumn R o p < endColumn R o q → beats R o q p ≡ false
+  -- a position with a greater right edge does not beat another
+  later-loses : (q p : Position) → rightEdge R o p < rightEdge R o q → beats R o q p ≡ false
   unfolding beats
-  later-loses q p l = rw (le-ltb (endColumn R o q) (endColumn R o p) (omega arith), ne-eqb (endColumn R o q) (endColumn R o p) (λ e. omega arith)) refl
+  later-loses q p l = rw (le-ltb (rightEdge R o q) (rightEdge R o p) (omega arith), ne-eqb (rightEdge R o q) (rightEdge R o p) (λ e. omega arith)) refl
 
-  -- and so a search that is stopped at the last column of the best so far is as good as a whole one
-  better-to : (N : ℕ) {x : Option Position} (y : Option Position) {a : Choice} (b : Choice) → Finds R o x a →
-      FindsTo R N o y (limitOf a N) b → Finds R o (better R o x y) (betterBy a b)
+  -- and so a search that is stopped at the right edge of the best so far is as good as a whole one
+  better-to : (N : ℕ) → N * R ≤ 4294967295 → {x : Option Position} (y : Option Position) {a : Choice} (b : Choice) → Finds R o x a →
+      FindsTo R N o y (limitOf a) b → Finds R o (better R o x y) (betterBy a b)
   unfolding better
-  better-to N y (Chosen q) f g = better-finds f g
-  better-to N y {a} Nowhere f g =
+  better-to N fits y (Chosen q) f g = better-finds f g
+  better-to N fits y {a} Nowhere f g =
       record { is = go a y (f .ranks) g ∙ ap (λ (z : Option Position). better R o z y) (f .is); ranks = f .ranks }
     where
-      go : (a : Choice) (y : Option Position) → Ranks R o a → FindsTo R N o y (limitOf a N) Nowhere →
+      go : (a : Choice) (y : Option Position) → Ranks R o a → FindsTo R N o y (limitOf a) Nowhere →
           placeOf a ≡ better R o (placeOf a) y
       go Nowhere none k h = refl
       go Nowhere (some q) k h = absurd (omega (arith, h q refl .0, h q refl .1))
       go (Chosen p) none k h = refl
       go (Chosen p) (some q) k h =
           ap (λ (b : Bool). cond b (some q) (some (p .at)))
-          (sym (later-loses q (p .at) (omega (arith, k .end, h q refl .0, h q refl .1))))
+          (sym (later-loses q (p .at) (omega (arith, k .right, h q refl .0))))
 
 pub all-turns : {W R N g : ℕ} {held : List (List Rows)} {o : List ℕ} {mask t words : ℕ} {way : Way} {s : Tried} → t ≤ 4 → 4 ≤ t →
     TurnsTo W R N g held o mask t words way s → TurnsTo W R N g held o mask 4 words way s
@@ -108,10 +109,10 @@ module _ {W R N g : ℕ} {held : List (List Rows)} {o : List ℕ} {mask t words 
   abbrev triesTo : Bool → ℕ
   triesTo b = triesBelow W R N g held o mask t + cond b (triesIn (turnWalk W R N g held o t)) 0
 
-  pub turn-more : {x : Tried} {limit : ℕ} → allowedb mask t ≡ true → limit ≡ limitOf (s .best) N → OneTurn W R N g held o t words limit way x →
+  pub turn-more : {x : Tried} {limit : ℕ} → N ≤ 4096 → R ≤ 400 → allowedb mask t ≡ true → limit ≡ limitOf (s .best) → OneTurn W R N g held o t words limit way x →
       TurnsTo W R N g held o mask (t + 1) words way (merged s x)
   unfolding mostRuns bestBelow triesBelow
-  turn-more {x} {limit} e stop one = let n : t + 1 ≡ suc t = omega arith in rw n (go e)
+  turn-more {x} {limit} many fine e stop one = let n : t + 1 ≡ suc t = omega arith in rw n (go e)
     where
       go : allowedb mask t ≡ true → TurnsTo W R N g held o mask (suc t) words way (merged s x)
       go e =
@@ -124,7 +125,7 @@ module _ {W R N g : ℕ} {held : List (List Rows)} {o : List ℕ} {mask t words 
             best =
                 λ h.
                 subst (λ (b : Bool). Finds R o (better R o (bestBelow W R N g held o mask t) (cond b (firstFree W R N g held o t) none)) (betterBy (s .best) (x .best)))
-                (sym e) (better-to R o N _ (x .best) (so-far .best (omega arith)) (rw stop at (one .best (omega arith))));
+                (sym e) (better-to R o N (omega (arith, mul-le-mul many fine)) _ (x .best) (so-far .best (omega arith)) (rw stop at (one .best (omega arith))));
           }
 
   better-none : (x : Option Position) → better R o x none ≡ x

@@ -5,7 +5,7 @@ use mathlib.Core.Logic.{⊎-elim}
 use mathlib.Core.Bool.{Bool, true, false, cond}
 use mathlib.Core.List.{List}
 use mathlib.Core.Option.{none, some, Option·some-injective, Option·none-ne-some}
-use Prim.Native.Nat.{ℕ, _+_, _*_, _/_, _≤_, _<_}
+use Prim.Native.Nat.{ℕ, _+_, _-_, _*_, _/_, _≤_, _<_}
 use native.Mathlib.Omega.{arith}
 use lib.ListN.{length, take, drop}
 use lib.Seq.{sets, sets-eq, take-at}
@@ -13,12 +13,13 @@ use Rattle.defs.specs.declared.Position.{Position}
 use Rattle.defs.specs.Meaning.Outline.{KeepsOrder}
 use Rattle.defs.specs.Meaning.Turn.{turned, extentX, extentY}
 use Rattle.defs.specs.Meaning.Question.{Question10}
-use Rattle.defs.specs.Meaning.Placing.{columnsFor, endColumn, top}
+use Rattle.defs.specs.Meaning.Placing.{columnsFor, rightEdge, top}
 use Rattle.defs.specs.Computing.Cells.{Rows, pieceRuns, allowedb}
 use Rattle.defs.specs.Computing.Calls.{runsWords}
 use Rattle.defs.specs.Computing.Search.{freeb, dropN, firstFree}
 use Rattle.defs.specs.Computing.Walk.{turnWalk, triesIn}
 use Rattle.laws.proofs.Questions.{allowed}
+use Rattle.laws.proofs.Order.{before-edge, edge-within}
 use Rattle.geom.proofs.Strip.{lt-or-le}
 use Rattle.geom.proofs.RunWords.{runs-length}
 use Rattle.cells.specs.Put.{PutRuns}
@@ -82,6 +83,7 @@ module _
     {W N n p w wide tall : ℕ}
     (o : List ℕ)
     (t R g : ℕ)
+    (Rpos : 1 ≤ R)
     (small : g ≤ 400)
     (laid : Laid f l h W N n)
     (stood : Stands (pieceRuns o t R g) r p)
@@ -94,26 +96,33 @@ module _
   pub frame : Frame f l h r N W p wide tall
   frame = rw (wide-is, up) (frame-of o t R g small laid stood)
 
-  -- where no position of the turn that ends before column `lower` is free, no column before has a free height
-  pub full-before : {lower : ℕ} → NoneInTurn W R N g (tableOf f l h N) o t lower → FullBefore f l h r N W p wide tall lower
-  full-before h =
+  -- where no position of the turn with a right edge before `lower` is free, no column from which it ends there has a free height
+  pub full-before : (lower : ℕ) → NoneInTurn W R N g (tableOf f l h N) o t lower →
+      FullBefore f l h r N W p wide tall (columnsFor (lower - w) R)
+  full-before lower h =
       rw (wide-is, up)
       (record {
         none =
             λ c before fits.
-            record { none = λ y rows free. h .none c y before fits rows (free-is o t R g small laid stood c y fits .0 free) };
+            record {
+              none =
+                  λ y rows free.
+                  let edge = before-edge R w lower c Rpos .0 before in
+                  h .none c y (omega (arith, across, edge)) fits rows (free-is o t R g small laid stood c y fits .0 free);
+            };
       })
 
-  pub spot-fits : {limit c y : ℕ} {way : Way} {a : TurnWalk} → W ≤ 16000 → N ≤ 4096 → Looks f l h r N W p wide tall limit way a →
-      a .spot ≡ Found c y → (c + wide ≤ 65535) × (y + tall ≤ 65535)
-  spot-fits {limit} few many e q =
-      let s = subst (SearchedTo f l h r N W p wide tall limit) q (e .spot) in
+  pub spot-fits : {end c y : ℕ} {way : Way} {a : TurnWalk} → W ≤ 16000 → N ≤ 4096 → Looks f l h r N W p wide tall end way a →
+      a .spot ≡ Found c y → (c ≤ 65535) × (y + tall ≤ 65535)
+  spot-fits {end} few many e q =
+      let s = subst (SearchedTo f l h r N W p wide tall end) q (e .spot) in
       (omega (arith, s .fits), omega (arith, s .height .fits))
 
-  -- a position that the definition finds is free, so it is none of those that have no free height
-  after-limit : (limit : ℕ) → ((c : ℕ) → c + columnsFor (extentX o t) R ≤ limit → NoHeight f l h r N W p (extentY o t) c) →
-      (q : Position) → firstFree W R N g (tableOf f l h N) o t ≡ some q → (limit < endColumn R o q) × (endColumn R o q ≤ N)
-  unfolding firstFree endColumn
+  -- a position that the definition finds is free, so it is in none of the columns that have no free height
+  after-limit : (limit : ℕ) →
+      ((c : ℕ) → c < columnsFor (limit + 1 - extentX o t) R → c + columnsFor (extentX o t) R ≤ N → NoHeight f l h r N W p (extentY o t) c) →
+      (q : Position) → firstFree W R N g (tableOf f l h N) o t ≡ some q → (limit < rightEdge R o q) × (rightEdge R o q ≤ N * R)
+  unfolding firstFree rightEdge
   after-limit limit full q e =
       let column = first-at _ 0 _ q e in
       let c = column .at in
@@ -121,19 +130,22 @@ module _
       let y = height .at in
       let here = found-where (freeb y (pieceRuns o t R g) (dropN c (tableOf f l h N))) (height .finds) in
       let on-strip : c + columnsFor (extentX o t) R ≤ N = omega (arith, column .below) in
-      subst (λ (a : Position). (limit < a .column + columnsFor (extentX o (a .turn)) R) × (a .column + columnsFor (extentX o (a .turn)) R ≤ N))
-      (here .1) (
-        ⊎-elim (λ u. u)
-            (λ u. absurd (full c u .none y (omega (arith, height .below)) (free-is o t R g small laid stood c y on-strip .1 (here .0))))
-            (lt-or-le limit (c + columnsFor (extentX o t) R)),
-        on-strip,
+      subst (λ (a : Position). (limit < a .column * R + extentX o (a .turn)) × (a .column * R + extentX o (a .turn) ≤ N * R)) (here .1) (
+        ⊎-elim
+            (λ u.
+            absurd
+            (full c (before-edge R (extentX o t) (limit + 1) c Rpos .1 u) on-strip .none y (omega (arith, height .below))
+            (free-is o t R g small laid stood c y on-strip .1 (here .0))))
+            (λ u. omega arith) (lt-or-le (c * R + extentX o t) (limit + 1)),
+        edge-within R (extentX o t) Rpos c N on-strip,
       )
 
-  finds : (limit : ℕ) (s : Spot) → SearchedTo f l h r N W p (columnsFor (extentX o t) R) (extentY o t) limit s →
-      FindsTo R N o (firstFree W R N g (tableOf f l h N) o t) limit (ranked s t (columnsFor (extentX o t) R) (extentY o t))
-  unfolding endColumn top
+  finds : (limit : ℕ) (s : Spot) →
+      SearchedTo f l h r N W p (columnsFor (extentX o t) R) (extentY o t) (columnsFor (limit + 1 - extentX o t) R) s →
+      FindsTo R N o (firstFree W R N g (tableOf f l h N) o t) limit (ranked s t (extentX o t) (extentY o t) R)
+  unfolding rightEdge top
   finds limit (Found c y) e =
-      record { is = sym (found-is o t R g small laid stood e); ranks = record { end = refl; top = refl } }
+      record { is = sym (found-is o t R g small laid stood e); ranks = record { right = refl; top = refl } }
   finds limit None e = after-limit limit e
 
   -- the walk counts the tries of the definition's walk
@@ -142,8 +154,8 @@ module _
   tries ByWalk n e = tries-are o t R g small laid stood e
   tries Round n e = tt
 
-  pub turn-tried : (words limit : ℕ) (way : Way) (a : TurnWalk) {c : Choice} → Looks f l h r N W p wide tall limit way a →
-      c ≡ ranked (a .spot) t wide tall →
+  pub turn-tried : (words limit : ℕ) (way : Way) (a : TurnWalk) {c : Choice} →
+      Looks f l h r N W p wide tall (columnsFor (limit + 1 - w) R) way a → c ≡ ranked (a .spot) t w tall R →
       OneTurn W R N g (tableOf f l h N) o t words limit way
       (record { most = p; best = c; tries = a .tries; stands = record { turn = t; runs = p } })
   turn-tried words limit way a e q =
@@ -151,7 +163,7 @@ module _
         most = stood .count;
         few = e .few;
         tries = λ _. tries way (a .tries) (rw (wide-is, up) at (e .steps));
-        best = λ _. rw (q, wide-is, up) (finds limit (a .spot) (rw (wide-is, up) at (e .spot)));
+        best = λ _. rw (q, across, up) (finds limit (a .spot) (rw (wide-is, up, across) at (e .spot)));
       }
 
 -- question 10 says that an allowed turn keeps its order
@@ -160,7 +172,7 @@ pub keeps-turn : (o : List ℕ) (mask t : ℕ) {r : Bool} → t ≤ 3 → Questi
 unfolding Question10
 keeps-turn o mask t l q e y = q t (allowed mask t l .0 (sym e ∙ y))
 
--- in an allowed turn, none that ends before column `lower` is free
+-- in an allowed turn, none with its right edge before `lower` is free
 pub none-in-turn : {f l h : List ℕ} {W R N g n : ℕ} (o : List ℕ) (mask t : ℕ) {lower : ℕ} {r : Bool} → Lent o → 1 ≤ R → Laid f l h W N n →
     t ≤ 3 → Question10 o mask → r ≡ allowedb mask t → r ≡ true → NoneBefore W R N g (tableOf f l h N) o mask lower →
     NoneInTurn W R N g (tableOf f l h N) o t lower

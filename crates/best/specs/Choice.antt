@@ -7,7 +7,7 @@ use Prim.Native.Nat.{ℕ, _+_, _*_, _≤_, _<_}
 use lib.ListN.{length}
 use Rattle.defs.specs.declared.Position.{Position}
 use Rattle.defs.specs.Meaning.Turn.{extentX, extentY}
-use Rattle.defs.specs.Meaning.Placing.{columnsFor, endColumn, top}
+use Rattle.defs.specs.Meaning.Placing.{columnsFor, rightEdge, top}
 use Rattle.defs.specs.Computing.Cells.{Rows, pieceRuns, countRuns, mostRuns}
 use Rattle.defs.specs.Computing.Search.{freeb, dropN, firstFree, bestBelow}
 use Rattle.defs.specs.Computing.Walk.{turnWalk, triesIn, triesBelow}
@@ -31,30 +31,30 @@ placeOf Nowhere = none
 
 -- the rank of a choice is that of its position
 pub record RankOf (R : ℕ) (o : List ℕ) (b : Ranked) : Type 0 where
-  pub end : b .end ≡ endColumn R o (b .at)
+  pub right : b .right ≡ rightEdge R o (b .at)
   pub top : b .top ≡ top o (b .at)
 
 abbrev pub Ranks : ℕ → List ℕ → Choice → Type 0
 Ranks R o (Chosen b) = RankOf R o b
 Ranks R o Nowhere = Unit {0}
 
--- a spot of turn t, with its rank
-abbrev pub rankedAt : ℕ → ℕ → ℕ → ℕ → ℕ → Ranked
-rankedAt c y t wide tall = record { at = record { turn = t; column = c; height = y }; end = c + wide; top = y + tall }
+-- a spot of turn t, with its rank by the extent w, h
+abbrev pub rankedAt : ℕ → ℕ → ℕ → ℕ → ℕ → ℕ → Ranked
+rankedAt c y t w h R = record { at = record { turn = t; column = c; height = y }; right = c * R + w; top = y + h }
 
-abbrev pub ranked : Spot → ℕ → ℕ → ℕ → Choice
-ranked (Found c y) t wide tall = Chosen (rankedAt c y t wide tall)
-ranked None t wide tall = Nowhere
+abbrev pub ranked : Spot → ℕ → ℕ → ℕ → ℕ → Choice
+ranked (Found c y) t w h R = Chosen (rankedAt c y t w h R)
+ranked None t w h R = Nowhere
 
 -- a choice is what the definition finds
 pub record Finds (R : ℕ) (o : List ℕ) (x : Option Position) (c : Choice) : Type 0 where
   pub is : placeOf c ≡ x
   pub ranks : Ranks R o c
 
--- a choice is what the definition finds; if it is none, what the definition finds ends after column `limit`, and on the strip
+-- a choice is what the definition finds; if it is none, what the definition finds has its right edge past `limit`, and on the strip
 abbrev pub FindsTo : ℕ → ℕ → List ℕ → Option Position → ℕ → Choice → Type 0
 FindsTo R N o x limit (Chosen b) = Finds R o x (Chosen b)
-FindsTo R N o x limit Nowhere = (q : Position) → x ≡ some q → (limit < endColumn R o q) × (endColumn R o q ≤ N)
+FindsTo R N o x limit Nowhere = (q : Position) → x ≡ some q → (limit < rightEdge R o q) × (rightEdge R o q ≤ N * R)
 
 -- an outline that passes 7 and 8, its bounds, and a table laid flat
 pub record Ready (f l h o : List ℕ) (W R N g : ℕ) (b : Bounds) : Type 0 where
@@ -68,10 +68,10 @@ pub record Ready (f l h o : List ℕ) (W R N g : ℕ) (b : Bounds) : Type 0 wher
   pub count : ℕ
   pub table : Laid f l h W N count
 
--- no free position of turn t ends before column `lower`
+-- no free position of turn t has its right edge before `lower`
 pub record NoneInTurn (W R N g : ℕ) (held : List (List Rows)) (o : List ℕ) (t lower : ℕ) : Type 0 where
   pub none :
-      (c y : ℕ) → c + columnsFor (extentX o t) R < lower → c + columnsFor (extentX o t) R ≤ N → y + extentY o t ≤ W →
+      (c y : ℕ) → c * R + extentX o t < lower → c + columnsFor (extentX o t) R ≤ N → y + extentY o t ≤ W →
       ¬ (freeb y (pieceRuns o t R g) (dropN c held) ≡ true)
 
 -- the walk counts n tries
@@ -79,7 +79,7 @@ abbrev pub TriesAre : Way → ℕ → ℕ → Type 0
 TriesAre ByWalk k n = k ≡ n
 TriesAre Round k n = Unit {0}
 
--- turn t, with work of so many words, searched up to column `limit`
+-- turn t, with work of so many words, searched up to the right edge `limit`
 pub record OneTurn (W R N g : ℕ) (held : List (List Rows)) (o : List ℕ) (t words limit : ℕ) (way : Way) (s : Tried) : Type 0 where
   pub most : s .most ≡ countRuns (pieceRuns o t R g)
   pub few : s .tries ≤ 268500992

@@ -12,32 +12,35 @@ ghost use Rattle.best.specs.Choice.{rankedAt, Ready, NoneInTurn, OneTurn
 use defs::Figures;
 use defs::Position;
 use outline::Bounds;
+use outline::Extent;
 use ranks::Choice;
 use ranks::Ranked;
 use ranks::Standing;
 use ranks::Tried;
+use search::Edges;
 use search::Way;
 use walk::Search;
 use walk::Spot;
 
-// Column c and height y of turn t, with their rank.
-fn rank(c: usize, y: u16, t: u16, wide: usize, tall: u16) -> Ranked
-    requires { ⌜ (c + wide ≤ 65535) × (y + tall ≤ 65535) ⌝ }
-    ensures { λ r. ⌜ r ≡ rankedAt c y t wide tall ⌝ }
+// Column c and height y of turn t, with their rank in columns of r units.
+fn rank(c: usize, y: u16, t: u16, e: Extent, r: u16) -> Ranked
+    requires { ⌜ (c ≤ 65535) × (y + e .h ≤ 65535) ⌝ }
+    ensures { λ k. ⌜ k ≡ rankedAt c y t (e .w) (e .h) r ⌝ }
 {
+    let column = c as u16;
     Ranked {
         at: Position {
             turn: t,
-            column: c as u16,
+            column,
             height: y,
         },
-        end: c + wide,
-        top: y + tall,
+        right: ranks::right_edge(column, e.w, r),
+        top: y + e.h,
     }
 }
 
-// The least free position in turn t, where the runs of the turn fit in the work buffer and none ends before column `lower`. One whose
-// last column is after `limit` may be left out, where the walk does not count its tries.
+// The least free position in turn t, where the runs of the turn fit in the work buffer and none has its right edge before `lower`. One
+// whose right edge is past `limit` may be left out, where the walk does not count its tries.
 fn try_turn(
     g: Figures,
     gap: u16,
@@ -48,13 +51,13 @@ fn try_turn(
     b: Bounds,
     t: u16,
     way: Way,
-    lower: usize,
-    limit: usize,
+    lower: u32,
+    limit: u32,
     work: &mut [u16],
 ) -> Tried
     requires { ⌜ Ready (now first) (now lows) (now highs) (now o) (g .width) (g .resolution) (g .columns) gap b ⌝
-        ∗ ⌜ t ≤ 3 ⌝ ∗ ⌜ KeepsOrder (turned (now o) t) ⌝ ∗ ⌜ (limit ≤ g .columns)
-        × NoneInTurn (g .width) (g .resolution) (g .columns) gap (tableOf (now first) (now lows) (now highs) (g .columns)) (now o) t lower ⌝ }
+        ∗ ⌜ t ≤ 3 ⌝ ∗ ⌜ KeepsOrder (turned (now o) t) ⌝
+        ∗ ⌜ NoneInTurn (g .width) (g .resolution) (g .columns) gap (tableOf (now first) (now lows) (now highs) (g .columns)) (now o) t lower ⌝ }
     ensures { λ s. ⌜ OneTurn (g .width) (g .resolution) (g .columns) gap (tableOf (now (first .entry)) (now (lows .entry)) (now (highs .entry)) (g .columns)) (now (o .entry)) t (length (now (work .entry))) limit way s ⌝
         ∗ ⌜ Kept (now (o .entry)) (g .resolution) gap (now (work .exit)) (s .stands .turn) (s .stands .runs) ⌝ }
 {
@@ -76,7 +79,13 @@ fn try_turn(
         wide: wide,
         tall: e.h,
     };
-    let found = search::search(first, lows, highs, work, figures, way, lower, limit);
+    let edges = Edges {
+        extent: e.w,
+        resolution: g.resolution,
+        least: lower,
+        most: limit,
+    };
+    let found = search::search(first, lows, highs, work, figures, way, edges);
     let spot = found.spot;
     let Spot::Found(c, y) = spot else {
         return Tried {
@@ -88,7 +97,7 @@ fn try_turn(
     };
     Tried {
         most: k,
-        best: Choice::Chosen(rank(c, y, t, wide, e.h)),
+        best: Choice::Chosen(rank(c, y, t, e, g.resolution)),
         tries: found.tries,
         stands: Standing { turn: t, runs: k },
     }
@@ -106,7 +115,7 @@ fn allowed_turn(
     mask: u16,
     t: u16,
     way: Way,
-    lower: usize,
+    lower: u32,
     work: &mut [u16],
     s: Tried,
 ) -> Tried
@@ -121,14 +130,14 @@ fn allowed_turn(
 {
     if checks::allows(mask, t) {
         let c = s.best;
-        let limit = ranks::limit_of(c, g.columns as usize);
+        let limit = ranks::limit_of(c);
         let x = try_turn(g, gap, first, lows, highs, o, b, t, way, lower, limit, work);
         return ranks::merge(s, x);
     }
     s
 }
 
-// The best position in the allowed turns, where none ends before column `lower`.
+// The best position in the allowed turns, where none has its right edge before `lower`.
 pub fn best_turn(
     g: Figures,
     gap: u16,
@@ -139,7 +148,7 @@ pub fn best_turn(
     b: Bounds,
     mask: u16,
     way: Way,
-    lower: usize,
+    lower: u32,
     work: &mut [u16],
 ) -> Tried
     requires { ⌜ Ready (now first) (now lows) (now highs) (now o) (g .width) (g .resolution) (g .columns) gap b ⌝

@@ -1,4 +1,4 @@
--- What lay says of its entries: pieces placed and used columns are those of the entries' fates, and the output has four words an entry.
+-- What lay says of its entries: pieces placed and used length are those of the entries' fates, and the output has four words an entry.
 -- Assumes nothing.
 use mathlib.Core.Path.{_≡_, refl, sym, ap, subst, _∙_}
 use mathlib.Core.Logic.{_⊎_, _≢_, inl, inr, ⊎-elim, ⊎-map}
@@ -12,7 +12,7 @@ use Rattle.defs.specs.declared.Entry.{Entry}
 use Rattle.defs.specs.declared.Fate.{Fate}
 use Rattle.defs.specs.declared.Fate.the-variants.{Placed, Refused}
 use Rattle.defs.specs.Answer.{fateWords}
-use Rattle.defs.specs.Meaning.Placing.{endColumn}
+use Rattle.defs.specs.Meaning.Placing.{rightEdge}
 use Rattle.defs.specs.Meaning.Sheet.{Piece}
 use Rattle.defs.specs.Meaning.Job.{Used, CountPlaced, none-yet, one-more, refused}
 use Rattle.defs.specs.Computing.Lay.{placedIn, usedIn, entriesWords}
@@ -51,27 +51,27 @@ same-place e = cc
 not-placed : {n : ℕ} {p : Position} → Refused n ≢ Placed p
 not-placed e = let z : _≡_ {A = ℕ} 0 1 = cc in omega arith
 
--- the two ways to have used u columns: some piece ends there, or none is placed
+-- the two ways to have used length u: some piece ends there, or none is placed
 abbrev Reaches : ℕ → (ℕ → List ℕ) → (ℕ → Fate) → ℕ → ℕ → Type 0
-Reaches R o f n u = (k : ℕ) × (p : Position) × (k < n) × (f k ≡ Placed p) × (endColumn R (o k) p ≡ u)
+Reaches R o f n u = (k : ℕ) × (p : Position) × (k < n) × (f k ≡ Placed p) × (rightEdge R (o k) p ≡ u)
 
 abbrev NonePlaced : (ℕ → Fate) → ℕ → Type 0
 NonePlaced f n = (k : ℕ) (p : Position) → k < n → f k ≢ Placed p
 
--- used columns, with one piece more before them
+-- used length, with one piece more before them
 module _ (R : ℕ) (o : ℕ → List ℕ) (f : ℕ → Fate) {n u : ℕ} (rest : Used R (λ m. o (suc m)) (λ m. f (suc m)) n u) where
   reaches-later : {v : ℕ} → u ≡ v → Reaches R (λ m. o (suc m)) (λ m. f (suc m)) n u → Reaches R o f (suc n) v
   reaches-later e r = (suc (r .0), r .1, omega (arith, r .2), r .3, r .4 ∙ e)
 
-  used-placed : (p : Position) → f 0 ≡ Placed p → Used R o f (suc n) (max (endColumn R (o 0) p) u)
-  used-placed p e = record { greatest = greatest; reached = inl (reached (le-or-lt u (endColumn R (o 0) p))) }
+  used-placed : (p : Position) → f 0 ≡ Placed p → Used R o f (suc n) (max (rightEdge R (o 0) p) u)
+  used-placed p e = record { greatest = greatest; reached = inl (reached (le-or-lt u (rightEdge R (o 0) p))) }
     where
-      greatest : (k : ℕ) (q : Position) → k < suc n → f k ≡ Placed q → endColumn R (o k) q ≤ max (endColumn R (o 0) p) u
-      greatest zero q h d = let z = ap (endColumn R (o 0)) (same-place (sym e ∙ d)) in omega arith
+      greatest : (k : ℕ) (q : Position) → k < suc n → f k ≡ Placed q → rightEdge R (o k) q ≤ max (rightEdge R (o 0) p) u
+      greatest zero q h d = let z = ap (rightEdge R (o 0)) (same-place (sym e ∙ d)) in omega arith
       greatest (suc k) q h d = omega (arith, rest .greatest k q (omega arith) d)
 
-      reached : (u ≤ endColumn R (o 0) p) ⊎ (endColumn R (o 0) p < u) →
-          Reaches R o f (suc n) (max (endColumn R (o 0) p) u)
+      reached : (u ≤ rightEdge R (o 0) p) ⊎ (rightEdge R (o 0) p < u) →
+          Reaches R o f (suc n) (max (rightEdge R (o 0) p) u)
       reached (inl l) = (0, p, omega arith, e, omega arith)
       reached (inr l) = ⊎-elim (reaches-later (omega arith)) (λ r. absurd (omega (arith, r .1))) (rest .reached)
 
@@ -82,7 +82,7 @@ module _ (R : ℕ) (o : ℕ → List ℕ) (f : ℕ → Fate) {n u : ℕ} (rest :
         reached = ⊎-map (reaches-later (omega arith)) (λ r. (none (r .0), omega (arith, r .1))) (rest .reached);
       }
     where
-      greatest : (k : ℕ) (q : Position) → k < suc n → f k ≡ Placed q → endColumn R (o k) q ≤ max 0 u
+      greatest : (k : ℕ) (q : Position) → k < suc n → f k ≡ Placed q → rightEdge R (o k) q ≤ max 0 u
       greatest zero q h d = absurd (not-placed (sym e ∙ d))
       greatest (suc k) q h d = omega (arith, rest .greatest k q (omega arith) d)
 
@@ -90,7 +90,7 @@ module _ (R : ℕ) (o : ℕ → List ℕ) (f : ℕ → Fate) {n u : ℕ} (rest :
       none r zero q h d = not-placed (sym e ∙ d)
       none r (suc k) q h d = r k q (omega arith) d
 
--- used columns of the whole list
+-- used length of the whole list
 pub used-reached : (R : ℕ) (ps : List Piece) (es : List Entry) → length es ≡ length ps →
     Used R (λ m. pieceAt ps m .outline) (fateAt es) (length ps) (usedIn R ps es)
 unfolding usedIn
@@ -101,7 +101,7 @@ used-reached R (p ∷ ps) (x ∷ es) e = go (x .fate) refl (used-reached R ps es
   where
     go : (f : Fate) → x .fate ≡ f → Used R (λ m. pieceAt ps m .outline) (fateAt es) (length ps) (usedIn R ps es) →
         Used R (λ m. pieceAt (p ∷ ps) m .outline) (fateAt (x ∷ es)) (suc (length ps))
-        (max (elim f [ Placed q ↦ endColumn R (p .outline) q | Refused n ↦ 0 ]) (usedIn R ps es))
+        (max (elim f [ Placed q ↦ rightEdge R (p .outline) q | Refused n ↦ 0 ]) (usedIn R ps es))
     go (Placed q) d h = used-placed R (λ m. pieceAt (p ∷ ps) m .outline) (fateAt (x ∷ es)) h q d
     go (Refused n) d h = used-refused R (λ m. pieceAt (p ∷ ps) m .outline) (fateAt (x ∷ es)) h n d
 

@@ -27,7 +27,7 @@ use Rattle.claims.specs.Trace.{Call, Calls, ask-call, commit-call, Puts,
 use Rattle.claims.specs.Demand3.{Demand3}
 use Rattle.claims.specs.Places.{PlaceCalls, PlacedCells, PlaceDemand3}
 use Rattle.claims.proofs.OutlineNumbers.{best-is, fourteen}
-use Rattle.claims.specs.Wrong.{square, atHeight, calls, stacked, askFor, commitAt, repeated, WrongLists}
+use Rattle.claims.specs.Wrong.{square, atHeight, calls, stacked, box, boxTurned, askFor, commitAt, repeated, WrongLists}
 
 by-four : (P : ℕ → Type 0) → P 0 → P 1 → P 2 → P 3 → (i : ℕ) → i < 4 → P i
 by-four P a b c d zero h = a
@@ -94,6 +94,10 @@ on-strip-0 : OnStrip 10 2 10 square (atHeight 0)
 unfolding runs
 on-strip-0 = record { columns = omega arith; rows = omega arith }
 
+box-on-strip : OnStrip 10 4 10 box (atHeight 0)
+unfolding runs
+box-on-strip = record { columns = omega arith; rows = omega arith }
+
 -- nothing is occupied before the first call
 fits-0 : (x : PlaceCalls) → Fits 10 2 10 0 (PlacedCells 10 2 10 0 (x .call) 0) square 1 (atHeight 0)
 unfolding Free
@@ -142,6 +146,10 @@ not-later : ¬ Later 2 square (atHeight 1) (atHeight 0)
 unfolding Later runs
 not-later h = ⊎-elim (λ a. omega arith) (⊎-elim (λ a. omega (arith, a .1)) (λ a. omega (arith, a .2))) h
 
+not-before : ¬ Later 4 box (record { turn = 1; column = 0; height = 0 }) (atHeight 0)
+unfolding Later runs
+not-before h = ⊎-elim (λ a. omega arith) (⊎-elim (λ a. omega (arith, a .0)) (λ a. omega (arith, a .0))) h
+
 module _ (lent : List ℕ) (tries : ℕ → ℕ) (strip : ℕ → List ℕ) where
   searched : ¬ PlaceDemand3 10 2 10 0 (calls lent 1 (λ _. Refused (refusal 13 1)) tries strip)
   unfolding Question13
@@ -176,6 +184,18 @@ module _ (lent : List ℕ) (tries : ℕ → ℕ) (strip : ℕ → List ℕ) wher
       not-later
       (d .best 0 (atHeight 1) (omega arith) refl .first (atHeight 0) (fits-0 (calls lent 1 (λ _. Placed (atHeight 1)) tries strip))
       (λ e. omega (arith, ap (λ (p : Position). p .height) e)))
+
+  lesser-edge : ¬ PlaceDemand3 10 4 10 0 (record { lent = lent; count = 1; call = λ m. boxTurned (tries m); strip = strip })
+  unfolding Free
+  lesser-edge d =
+      not-before
+      (d .best 0 (record { turn = 1; column = 0; height = 0 }) (omega arith) refl .first (atHeight 0)
+      (record {
+        allowed = record { turn = omega arith; bit = refl };
+        on-strip = box-on-strip;
+        free = λ i j c o. omega (arith, o .is-earlier);
+      })
+      (λ e. omega (arith, ap (λ (p : Position). p .turn) e)))
 
   refused-placed : {p : Position} (n k : ℕ) → ¬ (Refused (refusal n k) ≡ Placed p)
   refused-placed n k e = let z : _≡_ {A = ℕ} 0 1 = cc in omega arith
@@ -293,6 +313,7 @@ wrong-lists =
       height-0-always = not-always-0;
       nearer-than-the-gap = nearer;
       not-the-best = best-only;
+      least-last-column = lesser-edge;
       all-refused = not-refused;
       asked-before-searching = asked-searched;
       asks-refused = asked-refused;

@@ -16,7 +16,8 @@ abbrev pub pieceAt : List Piece → ℕ → Piece
 pieceAt ps m = getD ps m (record { mask = 0; outline = [] })
 
 -- "Lay reads a sheet, opens the lent strip and places the pieces in chain order, going on after a piece that is refused.
--- Output is four words a piece … The answer adds pieces placed and used columns"
+-- Output is four words a piece … The answer adds pieces placed"; S-7: "Used length, of 32 bits, is the greatest right edge, 0 if none, and
+-- replaces used columns in the answer and the last line".
 pub record LaysList (b : List ℕ) (g : ℕ) (s : List ℕ) (t : Totals) (s' out' work : List ℕ) : Type 0 where
   pub pieces : List Piece
   pub sheet : SheetHolds b pieces

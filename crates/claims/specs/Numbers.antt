@@ -180,7 +180,8 @@ writeQuestions W R N ws bytes =
     grants λ values. values ≡ (16 + 6 * v + 6 * getD ws 0 0) ∷ []
 
 -- "places the pieces in chain order, going on after a piece that is refused": each piece of the records rs is answered 12 to 14, or its
--- best position, against those placed before it, on a strip with Q records. "The answer adds pieces placed and used columns".
+-- best position, against those placed before it, on a strip with Q records. "The answer adds pieces placed"; S-7: "Used length, of 32
+-- bits, is the greatest right edge, 0 if none, and replaces used columns in the answer and the last line".
 pub record LaidTotals (b : List ℕ) (g work Q : ℕ) (rs values : List ℕ) : Type 0 where
   pub pieces : List Piece
   pub are-pieces : Pieces b rs pieces

@@ -1,6 +1,6 @@
 -- Lists of calls as wrong programs would make them: "We will try: …", document 01's note from the buying office. Demand 3 holds of none
 -- of them, whatever words were lent, whatever else the strip holds and whatever tries are reported. The strip has W 10, R 2, N 10 and no
--- gap, and each call lends the square of 4 by 4 with mask 1, or in turn 0. Assumes nothing.
+-- gap, and each call lends the square of 4 by 4 with mask 1, or in turn 0, where nothing else is said. Assumes nothing.
 use mathlib.Core.Path.{_≡_}
 use mathlib.Core.Logic.{_≢_}
 use mathlib.Core.List.{List, [], _∷_}
@@ -36,6 +36,21 @@ calls lent count answer tries strip =
 abbrev pub stacked : ℕ → Placing
 stacked zero = Placed (atHeight 0)
 stacked (suc m) = Placed (atHeight 4)
+
+-- S-7: box 5 by 6 with mask 3, placed in turn 1
+abbrev pub box : List ℕ
+box = 0 ∷ 0 ∷ 5 ∷ 0 ∷ 5 ∷ 6 ∷ 0 ∷ 6 ∷ []
+
+abbrev pub boxTurned : ℕ → PlaceCall
+boxTurned n =
+    record {
+      outline = box;
+      mask = 3;
+      work = replicate 6 0;
+      answer = Placed (record { turn = 1; column = 0; height = 0 });
+      tries = n;
+      work-after = replicate 6 0;
+    }
 
 -- S-2: the square asked for, and committed at turn 0, column 0 and a height
 abbrev pub askFor : Asking → ℕ → AskCall
@@ -73,6 +88,10 @@ pub record WrongLists : Type 0 where
   pub not-the-best :
       (lent : List ℕ) (tries : ℕ → ℕ) (strip : ℕ → List ℕ) →
       ¬ PlaceDemand3 10 2 10 0 (calls lent 1 (λ _. Placed (atHeight 1)) tries strip)
+  -- S-7: the box at R 4, where it ends in column 1 in both turns, placed by the lower top, though its right edge is 6 and not 5
+  pub least-last-column :
+      (lent : List ℕ) (tries : ℕ → ℕ) (strip : ℕ → List ℕ) →
+      ¬ PlaceDemand3 10 4 10 0 (record { lent = lent; count = 1; call = λ m. boxTurned (tries m); strip = strip })
   -- "all input refused": with any number, on a strip with six records
   pub all-refused :
       (lent : List ℕ) (tries : ℕ → ℕ) (strip : ℕ → List ℕ) (n k : ℕ) → length lent ≡ 39 →

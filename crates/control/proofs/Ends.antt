@@ -16,12 +16,12 @@ use Rattle.defs.specs.Meaning.Strip.{widthOf, resolutionOf, columnsOf, gapOf}
 use Rattle.defs.specs.Meaning.Placing.{Best, cellsIn}
 use Rattle.defs.specs.Meaning.Sheet.{afterPiece}
 use Rattle.defs.specs.Meaning.Question.{Question4, Question5, Question6, Question7Sheet}
-use Rattle.packing.specs.Packed.{first16, second16, third16, fourth16, high32, Packs, PacksWide}
+use Rattle.packing.specs.Packed.{first16, second16, Packs, PacksWide, PacksLong}
 use Rattle.claims.specs.Numbers.{Questions, asks, grants, Answers, RunsAre, openQuestions, coverQuestions, placeQuestions, commitQuestions, chainQuestions, listQuestions, readQuestions, writeQuestions, LaidTotals, layQuestions, layQuestionsTo}
 use Rattle.strokes.specs.Stroke.{DrawnOnce, FirstShared}
 use Rattle.knife.specs.Retraced.{retraceQuestions}
 use Rattle.pathclaims.specs.Paths.{readPathQuestions, writePathQuestions}
-use Rattle.control.specs.Answered.{taken, takenWide}
+use Rattle.control.specs.Answered.{takenAs, taken, takenWide, takenLong}
 
 -- no number is 0, and there are k values in the end
 pub data Ended (k : ℕ) : Questions → Type 1 where
@@ -56,38 +56,32 @@ where-0 n x y e = rw e refl
 pub where-not : {A : Type 0} (n m : ℕ) (x y : A) → n ≡ suc m → cond (eqb n 0) x y ≡ y
 where-not n m x y e = rw (e, eqb·suc-zero m)
 
-pub taken-is : (k n : ℕ) (qs : Questions) (a : Outcome) → Packs n a → Ended k qs → Answers qs a → a ≡ taken k n
-taken-is k n qs a p e h = go (a .number) refl
+-- What is read, of which so many values are asked for, is the outcome.
+taken-as-is : (k n : ℕ) (read : List ℕ) (qs : Questions) (a : Outcome) → first16 n ≡ a .number →
+    (a .number ≢ 0 → second16 n ≡ a .ordinal) → take (length (a .values)) read ≡ a .values → Ended k qs → Answers qs a →
+    a ≡ takenAs (take k read) n
+taken-as-is k n read qs a number ordinal values e h = go (a .number) refl
   where
-    three : List ℕ
-    three = second16 n ∷ third16 n ∷ fourth16 n ∷ []
-
-    go : (m : ℕ) → a .number ≡ m → a ≡ taken k n
+    go : (m : ℕ) → a .number ≡ m → a ≡ takenAs (take k read) n
     go zero z =
         let g = number-0 k qs a e h z in
-        let f : first16 n ≡ 0 = p .number ∙ z in
-        outcome-is a _ _ _ (sym (p .number)) (g .ordinal ∙ sym (where-0 (first16 n) 0 (second16 n) f))
-        (sym (p .values) ∙ ap (λ (j : ℕ). take j three) (g .values) ∙ sym (where-0 (first16 n) (take k three) [] f))
+        let f : first16 n ≡ 0 = number ∙ z in
+        outcome-is a _ _ _ (sym number) (g .ordinal ∙ sym (where-0 (first16 n) 0 (second16 n) f))
+        (sym values ∙ ap (λ (j : ℕ). take j read) (g .values) ∙ sym (where-0 (first16 n) (take k read) [] f))
     go (suc m) z =
         let not-0 : a .number ≢ 0 = λ u. omega (arith, z, u) in
-        let f : first16 n ≡ suc m = p .number ∙ z in
-        outcome-is a _ _ _ (sym (p .number)) (sym (p .ordinal not-0) ∙ sym (where-not (first16 n) m 0 (second16 n) f))
-        (other-number k qs a h not-0 ∙ sym (where-not (first16 n) m (take k three) [] f))
+        let f : first16 n ≡ suc m = number ∙ z in
+        outcome-is a _ _ _ (sym number) (sym (ordinal not-0) ∙ sym (where-not (first16 n) m 0 (second16 n) f))
+        (other-number k qs a h not-0 ∙ sym (where-not (first16 n) m (take k read) [] f))
+
+pub taken-is : (k n : ℕ) (qs : Questions) (a : Outcome) → Packs n a → Ended k qs → Answers qs a → a ≡ taken k n
+taken-is k n qs a p e h = taken-as-is k n _ qs a (p .number) (p .ordinal) (p .values) e h
 
 pub taken-wide-is : (n : ℕ) (qs : Questions) (a : Outcome) → PacksWide n a → Ended 1 qs → Answers qs a → a ≡ takenWide n
-taken-wide-is n qs a p e h = go (a .number) refl
-  where
-    go : (m : ℕ) → a .number ≡ m → a ≡ takenWide n
-    go zero z =
-        let g = number-0 1 qs a e h z in
-        let f : first16 n ≡ 0 = p .number ∙ z in
-        outcome-is a _ _ _ (sym (p .number)) (g .ordinal ∙ sym (where-0 (first16 n) 0 (second16 n) f))
-        (sym (p .values) ∙ ap (λ (j : ℕ). take j (high32 n ∷ [])) (g .values) ∙ sym (where-0 (first16 n) (high32 n ∷ []) [] f))
-    go (suc m) z =
-        let not-0 : a .number ≢ 0 = λ u. omega (arith, z, u) in
-        let f : first16 n ≡ suc m = p .number ∙ z in
-        outcome-is a _ _ _ (sym (p .number)) (sym (p .ordinal not-0) ∙ sym (where-not (first16 n) m 0 (second16 n) f))
-        (other-number 1 qs a h not-0 ∙ sym (where-not (first16 n) m (high32 n ∷ []) [] f))
+taken-wide-is n qs a p e h = taken-as-is 1 n _ qs a (p .number) (p .ordinal) (p .values) e h
+
+pub taken-long-is : (n : ℕ) (qs : Questions) (a : Outcome) → PacksLong n a → Ended 2 qs → Answers qs a → a ≡ takenLong n
+taken-long-is n qs a p e h = taken-as-is 2 n _ qs a (p .number) (p .ordinal) (p .values) e h
 
 -- the lists of the calls; ask has that of place
 

@@ -29,7 +29,7 @@ use Rattle.defs.specs.Computing.Test.{ask}
 use Rattle.defs.specs.Computing.Words.{figuresNo, lengthb, wellFormedb, recordsOf, columnsRuns}
 use Rattle.defs.specs.Computing.Calls.{refusal, q12b, q14b, q18b, outlineNo, shown, openAnswer, commitOn, commitAnswer, OpenStep, PlaceStep, AskStep, CommitStep}
 use Rattle.defs.specs.Computing.Lay.{LayStep}
-use Rattle.packing.specs.Packed.{first16, second16, third16, fourth16, Packs}
+use Rattle.packing.specs.Packed.{first16, second16, third16, fourth16, high32, Packs, PacksLong}
 use Rattle.packing.specs.Steps.{OpenPacked, CommitPacked, LayPacked}
 use Rattle.claims.specs.Trace.{Step, Trace}
 use Rattle.claims.specs.Demand3.{Demand3-holds}
@@ -166,16 +166,16 @@ totals-are : (t : Totals) (placed used : ℕ) → placed ≡ t .placed → used 
 totals-are t placed used ep eu = rw (ep, eu)
 
 laid-by : {b : List ℕ} {g : ℕ} {s out work : List ℕ} {n : ℕ} {s' out' work' : List ℕ} → LayPacked b g s out work n s' out' work' → first16 n ≡ 0 →
-    LayStep b g s out work (Laid (record { placed = second16 n; used = third16 n })) s' out' work'
+    LayStep b g s out work (Laid (record { placed = second16 n; used = high32 n })) s' out' work'
 laid-by {b} {g} {s} {out} {work} {n} {s'} {out'} {work'} x z =
     go (x .answer) (x .step) (x .packs) (demand1-numbers .lay-asks (x .step))
   where
-    go : (a : Laying) → LayStep b g s out work a s' out' work' → Packs n (laying a) →
+    go : (a : Laying) → LayStep b g s out work a s' out' work' → PacksLong n (laying a) →
         Answers (layQuestions b g (length s) (length out) (length work)) (laying a) →
-        LayStep b g s out work (Laid (record { placed = second16 n; used = third16 n })) s' out' work'
+        LayStep b g s out work (Laid (record { placed = second16 n; used = high32 n })) s' out' work'
     go (Laid t) y u h =
         subst (λ (v : Totals). LayStep b g s out work (Laid v) s' out' work')
-        (totals-are t (second16 n) (third16 n) (ap (λ (vs : List ℕ). getD vs 0 0) (u .values))
+        (totals-are t (second16 n) (high32 n) (ap (λ (vs : List ℕ). getD vs 0 0) (u .values))
         (ap (λ (vs : List ℕ). getD vs 1 0) (u .values))) y
     go (NotLaid r) y u h =
         absurd

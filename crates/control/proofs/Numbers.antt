@@ -12,7 +12,7 @@ use Rattle.knife.proofs.Retraced.{retrace-asks}
 use Rattle.pathclaims.specs.Paths.{readPathQuestions, writePathQuestions}
 use Rattle.pathclaims.proofs.Paths.{paths}
 use Rattle.control.specs.Answered.{PackedNumbers}
-use Rattle.control.proofs.Ends.{taken-is, taken-wide-is, open-ended, cover-ended, place-ended, commit-ended, read-ended, write-ended, lay-ended, retrace-ended, read-path-ended, write-path-ended}
+use Rattle.control.proofs.Ends.{taken-is, taken-wide-is, taken-long-is, open-ended, cover-ended, place-ended, commit-ended, read-ended, write-ended, lay-ended, retrace-ended, read-path-ended, write-path-ended}
 
 pub packed-numbers : PackedNumbers
 packed-numbers =
@@ -56,7 +56,7 @@ packed-numbers =
           λ {b} {g} {s} {out} {work} {n} x.
           let qs = layQuestions b g (length s) (length out) (length work) in
           let h = demand1-numbers .lay-asks (x .step) in
-          subst (Answers qs) (taken-is 2 n qs (laying (x .answer)) (x .packs) (lay-ended b g (length s) (length out) (length work)) h) h;
+          subst (Answers qs) (taken-long-is n qs (laying (x .answer)) (x .packs) (lay-ended b g (length s) (length out) (length work)) h) h;
       retrace-asks =
           λ {o} {n} x.
           let qs = retraceQuestions o in

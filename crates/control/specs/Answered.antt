@@ -14,24 +14,26 @@ use Rattle.knife.specs.Retraced.{retraceQuestions}
 use Rattle.pathclaims.specs.Paths.{readPathQuestions, writePathQuestions}
 use Rattle.claims.specs.Numbers.{Answers, openQuestions, coverQuestions, placeQuestions, askQuestions, commitQuestions, readQuestions, writeQuestions, layQuestions}
 
--- vikelodu_number; then vikelodu_ordinal where it is not 0, else so many values of 16 bits: vikelodu_turn, vikelodu_column and
--- vikelodu_height, or those of another call
-abbrev pub taken : ℕ → ℕ → Outcome
-taken values n =
+-- vikelodu_number; then vikelodu_ordinal where it is not 0, else these values
+abbrev pub takenAs : List ℕ → ℕ → Outcome
+takenAs values n =
     record {
       number = first16 n;
       ordinal = cond (eqb (first16 n) 0) 0 (second16 n);
-      values = cond (eqb (first16 n) 0) (take values (second16 n ∷ third16 n ∷ fourth16 n ∷ [])) [];
+      values = cond (eqb (first16 n) 0) values [];
     }
 
--- the same with the one value of vikelodu_runs, vikelodu_size or vikelodu_words
+-- so many values of 16 bits: vikelodu_turn, vikelodu_column and vikelodu_height, or those of another call
+abbrev pub taken : ℕ → ℕ → Outcome
+taken values n = takenAs (take values (second16 n ∷ third16 n ∷ fourth16 n ∷ [])) n
+
+-- the one value of vikelodu_runs, vikelodu_size or vikelodu_words
 abbrev pub takenWide : ℕ → Outcome
-takenWide n =
-    record {
-      number = first16 n;
-      ordinal = cond (eqb (first16 n) 0) 0 (second16 n);
-      values = cond (eqb (first16 n) 0) (high32 n ∷ []) [];
-    }
+takenWide n = takenAs (high32 n ∷ []) n
+
+-- vikelodu_placed and vikelodu_used_length
+abbrev pub takenLong : ℕ → Outcome
+takenLong n = takenAs (second16 n ∷ high32 n ∷ []) n
 
 pub record PackedNumbers : Type 0 where
   pub open-asks :
@@ -56,7 +58,7 @@ pub record PackedNumbers : Type 0 where
       Answers (writeQuestions W R N ws (length out)) (takenWide n)
   pub lay-asks :
       {b : List ℕ} {g : ℕ} {s out work : List ℕ} {n : ℕ} {s' out' work' : List ℕ} → LayPacked b g s out work n s' out' work' →
-      Answers (layQuestions b g (length s) (length out) (length work)) (taken 2 n)
+      Answers (layQuestions b g (length s) (length out) (length work)) (takenLong n)
   pub retrace-asks : {o : List ℕ} {n : ℕ} → RetracePacked o n → Answers (retraceQuestions o) (taken 2 n)
   pub read-path-asks :
       {path out : List ℕ} {n : ℕ} {out' : List ℕ} → PathReadPacked path out n out' →

@@ -12,7 +12,7 @@ use Rattle.defs.specs.declared.Asking.{Asking}
 use Rattle.defs.specs.declared.Committing.{Committing}
 use Rattle.defs.specs.declared.Committing.the-variants.{Committed, Refused as NotCommitted}
 use Rattle.defs.specs.Computing.Calls.{shown}
-use Rattle.packing.specs.Packed.{first16, second16, third16, fourth16}
+use Rattle.packing.specs.Packed.{first16, second16, third16, fourth16, high32}
 use Rattle.defs.specs.Meaning.Sheet.{sheetW, sheetR, sheetN}
 use Rattle.packing.specs.Steps.{OpenPacked, PlacePacked, AskPacked, CommitPacked, LayPacked}
 use Rattle.claims.specs.Trace.{Call, place-call, ask-call, commit-call, Calls}
@@ -97,10 +97,11 @@ plain x = record { lent = x .lent; count = x .count; call = λ m. plainCall (x .
 unfoldable pub Packed-demand3 : Type 0
 Packed-demand3 = (W R N g : ℕ) (x : PackedCalls) → PackedTrace W R N g x → Demand3 W R N g (plain x)
 
--- A granted vikelodu_lay is one list of place calls, of which demand 3 holds, with the totals vikelodu_placed and vikelodu_used.
+-- A granted vikelodu_lay is one list of place calls, of which demand 3 holds, with the totals vikelodu_placed and
+-- vikelodu_used_length.
 unfoldable pub Packed-lay : Type 0
 Packed-lay =
     (b : List ℕ) (g : ℕ) (s out work : List ℕ) (n : ℕ) (s' out' work' : List ℕ) →
     LayPacked b g s out work n s' out' work' → first16 n ≡ 0 →
-    (l : LaysList b g s (record { placed = second16 n; used = third16 n }) s' out' work) ×
+    (l : LaysList b g s (record { placed = second16 n; used = high32 n }) s' out' work) ×
     PlaceDemand3 (sheetW b) (sheetR b) (sheetN b) g (l .list)

@@ -22,7 +22,7 @@ pub record Copy (b : List ℕ) (last at : ℕ) : Type 0 where
   pub outline : pieceOf b last .outline ≡ pieceOf b at .outline
   pub mask : pieceOf b last .mask ≡ pieceOf b at .mask
 
--- a column up to `lower`, and 0 but for a copy
+-- a right edge up to `lower`, and 0 but for a copy
 pub record StartsAt (b : List ℕ) (last at lower start : ℕ) : Type 0 where
   pub most : start ≤ lower
   pub copy : 0 < start → Copy b last at

@@ -51,9 +51,9 @@ fn same_vertices(sheet: &[u8], v: usize, x: u16, y: u16) -> bool
     j < 1
 }
 
-// Before which column no free position of piece record `at` ends, where none of the piece before it, `last`, ends before `lower`: that
-// column for a copy, else 0.
-pub fn start_of(sheet: &[u8], v: usize, last: usize, at: usize, lower: u16) -> usize
+// Before which right edge piece record `at` has no free position, where the piece before it, `last`, has none before `lower`: that one for
+// a copy, else 0.
+pub fn start_of(sheet: &[u8], v: usize, last: usize, at: usize, lower: u32) -> u32
     requires { ⌜ PieceAt (now sheet) v last ⌝ ∗ ⌜ PieceAt (now sheet) v at ⌝ }
     ensures { λ s. ⌜ StartsAt (now (sheet .entry)) last at lower s ⌝ }
 {
@@ -63,7 +63,7 @@ pub fn start_of(sheet: &[u8], v: usize, last: usize, at: usize, lower: u16) -> u
         return 0;
     }
     if same_vertices(sheet, v, p.first, q.first) {
-        return lower as usize;
+        return lower;
     }
     0
 }

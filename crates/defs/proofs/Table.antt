@@ -18,6 +18,7 @@ use Rattle.defs.specs.declared.Committing.the-variants.{Committed, Refus
 use Rattle.defs.specs.declared.Reading.the-variants.{Read, Refused as NotRead}
 use Rattle.defs.specs.declared.Writing.the-variants.{Written, Refused as NotWritten}
 use Rattle.defs.specs.declared.Laying.the-variants.{Laid, Refused as NotLaid}
+use Rattle.defs.specs.declared.Fate.the-variants.{Placed as FatePlaced}
 use Rattle.defs.specs.Meaning.Outline.{sides}
 use Rattle.defs.specs.Meaning.Turn.{outlineFrom, turned}
 use Rattle.defs.specs.Meaning.Sheet.{Piece, listWords}
@@ -28,9 +29,9 @@ use Rattle.defs.specs.Computing.Walk.{turnWalk, walkEnd, triesBound}
 use Rattle.defs.specs.Computing.Vertices.{readX, readY}
 use Rattle.defs.specs.Computing.Calls.{refusal, openAnswer, coverAnswer, coverOutput, placeAnswer, askAnswer, commitAnswer, openedStrip, placedStrip, listAnswers, listTries, Lent}
 use Rattle.defs.specs.Computing.Sheets.{sheetBytes, readAnswer, readOutput, writeAnswer, writeOutput}
-use Rattle.defs.specs.Computing.Lay.{layAnswer, layOutput}
+use Rattle.defs.specs.Computing.Lay.{usedIn, layAnswer, layOutput}
 use Rattle.defs.specs.Computing.Ascii.{ascii}
-use Rattle.defs.specs.Computing.Text.{layText}
+use Rattle.defs.specs.Computing.Text.{totalsLine, layText}
 use Rattle.defs.specs.Computing.Bytes.{wordsIn, bytesLeft}
 use Rattle.defs.specs.Computing.Runs.{runs}
 
@@ -226,12 +227,19 @@ T-work : listAnswers 3 1 10 0 6 (lent T 3 8 ∷ lent T 2 5 ∷ lent T 2 6 ∷ le
 unfolding runs
 T-work = refl
 
--- Last column, not right edge: 3 by 4 at R 4 ends in column 0 in both turns, and the lower top wins.
-lower-top : listAnswers 10 4 10 0 6 (piece (0 ∷ 0 ∷ 3 ∷ 0 ∷ 3 ∷ 4 ∷ 0 ∷ 4 ∷ []) 3 ∷ []) ≡ at 1 0 0 ∷ []
+-- S-7. Right edge, not last column: box 5 by 6 at R 4 ends in column 1 in both turns, and turn 0 wins by its lesser right edge, 5, though
+-- turn 1 has the lower top. So it is with 3 by 4, which ends in column 0.
+lesser-edge : listAnswers 10 4 10 0 6 (piece (0 ∷ 0 ∷ 5 ∷ 0 ∷ 5 ∷ 6 ∷ 0 ∷ 6 ∷ []) 3 ∷ piece (0 ∷ 0 ∷ 3 ∷ 0 ∷ 3 ∷ 4 ∷ 0 ∷ 4 ∷ []) 3 ∷ []) ≡ at 0 0 0 ∷ at 0 0 6 ∷ []
+unfolding runs
+lesser-edge = refl
+
+-- Equal right edges, and so equal last columns: the lower top wins, also against a lesser turn. Beside S and a square of 2 on it, 4 by 2 fits
+-- in turn 0 in column 1 at height 4, in turn 1 in column 2 at height 0: both end at 6.
+lower-top : listAnswers 6 2 10 0 8 (piece S 1 ∷ piece (0 ∷ 0 ∷ 2 ∷ 0 ∷ 2 ∷ 2 ∷ 0 ∷ 2 ∷ []) 1 ∷ piece (0 ∷ 0 ∷ 4 ∷ 0 ∷ 4 ∷ 2 ∷ 0 ∷ 2 ∷ []) 3 ∷ []) ≡ at 0 0 0 ∷ at 0 0 4 ∷ at 1 2 0 ∷ []
 unfolding runs
 lower-top = refl
 
--- Equal last column and top: the least turn wins.
+-- Equal right edge and top: the least turn wins.
 lesser-turn : listAnswers 10 2 10 0 6 (piece S 12 ∷ []) ≡ at 2 0 0 ∷ []
 unfolding runs
 lesser-turn = refl
@@ -397,17 +405,31 @@ limits-of-a-list = refl
 -- Laying.
 
 -- The printed example: its totals, its output, its text.
-lay-three : layAnswer (sheetBytes 10 2 10 three) 0 39 12 30 ≡ Laid (record { placed = 3; used = 4 })
+lay-three : layAnswer (sheetBytes 10 2 10 three) 0 39 12 30 ≡ Laid (record { placed = 3; used = 8 })
 unfolding runs three
 lay-three = refl
 
-lay-three-output : layOutput (sheetBytes 10 2 10 three) 0 (replicate 13 8) 39 30 (Laid (record { placed = 3; used = 4 })) ≡ 0 ∷ 0 ∷ 0 ∷ 0 ∷ 0 ∷ 0 ∷ 0 ∷ 4 ∷ 0 ∷ 0 ∷ 2 ∷ 0 ∷ 8 ∷ []
+lay-three-output : layOutput (sheetBytes 10 2 10 three) 0 (replicate 13 8) 39 30 (Laid (record { placed = 3; used = 8 })) ≡ 0 ∷ 0 ∷ 0 ∷ 0 ∷ 0 ∷ 0 ∷ 0 ∷ 4 ∷ 0 ∷ 0 ∷ 2 ∷ 0 ∷ 8 ∷ []
 unfolding runs three
 lay-three-output = refl
 
-lay-three-text : layText (sheetBytes 10 2 10 three) ≡ ascii "strip 10 2 10\n1 placed 0 0 0\n2 placed 0 0 4\n3 placed 0 2 0\nused 4 placed 3\n"
+lay-three-text : layText (sheetBytes 10 2 10 three) ≡ ascii "strip 10 2 10\n1 placed 0 0 0\n2 placed 0 0 4\n3 placed 0 2 0\nused 8 placed 3\n"
 unfolding runs three
 lay-three-text = refl
+
+-- S-7: used length is that of the outlines, without the gap: with a gap of 1 the third square lies in column 3.
+lay-three-gap : layAnswer (sheetBytes 10 2 10 three) 1 51 12 30 ≡ Laid (record { placed = 3; used = 10 })
+unfolding runs three
+lay-three-gap = refl
+
+-- "of 32 bits": a piece that ends with the last column of the longest strip, as it is counted and as it is printed.
+longest-used : usedIn 400 (inList (0 ∷ 0 ∷ 400 ∷ 0 ∷ 0 ∷ 1 ∷ []) ∷ []) (record { ordinal = 1; fate = FatePlaced (position 0 4095 0) } ∷ []) ≡ 1638400
+unfolding runs
+longest-used = refl
+
+longest-text : totalsLine (record { placed = 1; used = 1638400 }) ++ totalsLine (record { placed = 0; used = 4294967295 }) ≡ ascii "used 1638400 placed 1\nused 4294967295 placed 0\n"
+unfolding runs
+longest-text = refl
 
 -- With Q 3 the third gets 14 as its fate, with a short work buffer each gets 12, and the job goes on.
 lay-fates : layOutput (sheetBytes 10 2 10 three) 0 [] 27 30 (layAnswer (sheetBytes 10 2 10 three) 0 27 12 30) ++ layOutput (sheetBytes 10 2 10 three) 0 [] 27 5 (layAnswer (sheetBytes 10 2 10 three) 0 27 12 5) ≡ 0 ∷ 0 ∷ 0 ∷ 0 ∷ 0 ∷ 0 ∷ 0 ∷ 4 ∷ 14 ∷ 0 ∷ 0 ∷ 0 ∷ 12 ∷ 0 ∷ 0 ∷ 0 ∷ 12 ∷ 0 ∷ 0 ∷ 0 ∷ 12 ∷ 0 ∷ 0 ∷ 0 ∷ []
@@ -420,7 +442,7 @@ unfolding runs three
 lay-numbers = refl
 
 -- A refused piece and a refused job in text: W 3 takes no S, and the job goes on; the tie is the second piece.
-refused-text : layText (sheetBytes 3 2 10 (inList T ∷ inList S ∷ inList T ∷ [])) ≡ ascii "strip 3 2 10\n1 placed 0 0 0\n2 refused 13\n3 placed 0 2 0\nused 4 placed 2\n"
+refused-text : layText (sheetBytes 3 2 10 (inList T ∷ inList S ∷ inList T ∷ [])) ≡ ascii "strip 3 2 10\n1 placed 0 0 0\n2 refused 13\n3 placed 0 2 0\nused 7 placed 2\n"
 unfolding runs
 refused-text = refl
 

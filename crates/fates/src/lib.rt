@@ -6,23 +6,22 @@ ghost use lib.ListN.{length};
 ghost use lib.Seq.{sets};
 ghost use Rattle.defs.specs.declared.Position.{Position};
 ghost use Rattle.defs.specs.Answer.{fateWords};
-ghost use Rattle.defs.specs.Meaning.Placing.{endColumn};
 ghost use Rattle.defs.specs.Computing.Lay.{fateOf};
 ghost use Rattle.outline.specs.Vertex.{Lent, BoundsOf};
-ghost use Rattle.fates.specs.Fates.{endOf, lowerBy, tallied, Few};
+ghost use Rattle.fates.specs.Fates.{edgeOf, lowerBy, tallied, Few};
 use defs::Entry;
 use defs::Fate;
 use defs::Placing;
 use outline::Bounds;
 
-// The ordinal of the next piece, the pieces placed and the columns used so far, whether the second table is current, and before which
-// column no free position of a copy of the last piece ends.
+// The ordinal of the next piece, the pieces placed and the length used so far, whether the second table is current, and before which right
+// edge a copy of the last piece has no free position.
 pub struct Tally {
     pub ordinal: u16,
     pub placed: u16,
-    pub used: u16,
+    pub used: u32,
     pub second: bool,
-    pub lower: u16,
+    pub lower: u32,
 }
 
 pub fn fate_of(a: Placing) -> Fate
@@ -47,38 +46,37 @@ pub fn put_entry(e: Entry, out: &mut [u16])
     }
 }
 
-// One more than the last column of a piece that is placed, else 0.
-pub fn end_of(o: &[u16], b: Bounds, r: u16, a: Placing) -> usize
-    requires { ⌜ Lent (now o) ⌝ ∗ ⌜ BoundsOf (now o) b ⌝ ∗ ⌜ 1 ≤ r ⌝ ∗ ⌜ ((p : Position) → a ≡ Placing.Placed p → (p .turn ≤ 3) × (endColumn r (now o) p ≤ 4096)) ⌝ }
-    ensures { λ e. ⌜ e ≡ endOf r (now (o .entry)) a ⌝ }
+// The right edge of a piece that is placed, else 0.
+pub fn right_of(o: &[u16], b: Bounds, r: u16, a: Placing) -> u32
+    requires { ⌜ Lent (now o) ⌝ ∗ ⌜ BoundsOf (now o) b ⌝ ∗ ⌜ ((p : Position) → a ≡ Placing.Placed p → p .turn ≤ 3) ⌝ }
+    ensures { λ e. ⌜ e ≡ edgeOf r (now (o .entry)) a ⌝ }
 {
     match a {
         Placing::Placed(p) => {
             let e = outline::extent_of(o, b, p.turn);
-            p.column as usize + ranks::columns_for(e.w, r)
+            ranks::right_edge(p.column, e.w, r)
         }
         Placing::Refused(f) => 0,
     }
 }
 
-// Before which of n columns no free position of a copy ends, after an answer: 13 says that there is none at all.
-fn lower_of(a: Placing, end: u16, n: u16) -> u16
-    requires { ⌜ n ≤ 4096 ⌝ }
-    ensures { λ r. ⌜ r ≡ lowerBy a end n ⌝ }
+// Before which right edge a copy has no free position, after an answer: 13 says that there is none at all.
+fn lower_of(a: Placing, right: u32) -> u32
+    ensures { λ r. ⌜ r ≡ lowerBy a right ⌝ }
 {
     match a {
-        Placing::Placed(p) => end,
-        Placing::Refused(r) => { if r.number == 13 { n + 1 } else { 0 } }
+        Placing::Placed(p) => right,
+        Placing::Refused(r) => { if r.number == 13 { ranks::NO_EDGE } else { 0 } }
     }
 }
 
-// The tally after an answer, on a strip of n columns.
-pub fn counted(t: Tally, a: Placing, end: u16, n: u16) -> Tally
-    requires { ⌜ Few t × (n ≤ 4096) ⌝ }
-    ensures { λ r. ⌜ r ≡ tallied t a end n ⌝ }
+// The tally after an answer, the right edge of the piece with it.
+pub fn counted(t: Tally, a: Placing, right: u32) -> Tally
+    requires { ⌜ Few t ⌝ }
+    ensures { λ r. ⌜ r ≡ tallied t a right ⌝ }
 {
-    let used = numbers::more(t.used, end);
-    let lower = lower_of(a, end, n);
+    let used = numbers::greater(t.used as u64, right as u64) as u32;
+    let lower = lower_of(a, right);
     match a {
         Placing::Placed(p) => Tally {
             ordinal: t.ordinal + 1,

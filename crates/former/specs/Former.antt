@@ -1,5 +1,5 @@
--- Cells, free and best positions as they were before request S-4, for "With g = 0 every position is the former one."
--- Assumes nothing.
+-- Cells and free positions as they were before request S-4, and the best of them, for "With g = 0 every position is the former one." Only
+-- the gap is left out: which free position is best goes by S-7's order here too. Assumes nothing.
 use mathlib.Core.Bool.{Bool}
 use mathlib.Core.List.{List, []}
 use mathlib.Core.Logic.{_≢_}

@@ -10,13 +10,14 @@ use defs::Totals;
 // At most so many spaces between column lines.
 const SPACES: u64 = 20;
 
-// What the picture shows: the board's first columns, a little beyond the used ones.
+// What the picture shows: the board's first columns, a little beyond the used length.
 pub struct Scene {
     pub width: u16,
     pub resolution: u16,
     pub columns: u16,
     pub shown: u16,
-    pub used: u16,
+    // units
+    pub used: u32,
     pub placed: u16,
     pub refused: u16,
     // between pieces
@@ -30,7 +31,7 @@ pub fn length_of(n: u16, r: u16) -> u32 {
     marks::times(n as u32, r) as u32
 }
 
-// The same in hundredths.
+// The same in hundredths of a unit.
 fn reach(n: u16, r: u16) -> u64
     ensures { λ l. ⌜ l ≤ 429496729500 ⌝ }
 {
@@ -42,10 +43,28 @@ fn quarter(width: u16, r: u16) -> u16 {
     width / 4 / numbers::more(r, 1)
 }
 
+// The columns that a used length fills.
+fn filled(used: u32, r: u16) -> u32 {
+    used / numbers::more(r, 1) as u32
+}
+
+// The columns that it reaches into.
+fn columns_of(used: u32, r: u16) -> u64
+    ensures { λ n. ⌜ n ≤ 4294967296 ⌝ }
+{
+    let n = filled(used, r);
+    if marks::times(n, r) < used as u64 {
+        n as u64 + 1
+    } else {
+        n as u64
+    }
+}
+
 // The columns to show: an eighth more than the used ones, and a quarter of the width.
-fn shown_of(f: Figures, used: u16) -> u16 {
-    let n = used as u64 + used as u64 / 8 + quarter(f.width, f.resolution) as u64 + 1;
-    marks::smaller(n, f.columns as u64) as u16
+fn shown_of(f: Figures, used: u32) -> u16 {
+    let n = columns_of(used, f.resolution);
+    let more = n + n / 8 + quarter(f.width, f.resolution) as u64 + 1;
+    marks::smaller(more, f.columns as u64) as u16
 }
 
 // The size of the text, by the width and by the length, whichever gives more: a 33rd or a 100th.
@@ -121,6 +140,13 @@ fn high(s: Scene) -> u64
     100 * s.width as u64
 }
 
+// The used length, in hundredths.
+fn used_reach(s: Scene) -> u64
+    ensures { λ r. ⌜ r ≤ 429496729500 ⌝ }
+{
+    100 * s.used as u64
+}
+
 // How thick outlines are where nothing is between them: 0.09 em, at most a 40th of the strip's width, and never 0.
 fn thickest(s: Scene) -> u64
     ensures { λ r. ⌜ 1 ≤ r ⌝ }
@@ -155,7 +181,7 @@ fn head_of(s: Scene) -> [u64; 16] {
         shown,
         h,
         h,
-        reach(s.used, s.resolution),
+        used_reach(s),
         h,
         marks::difference(s.columns, s.shown) as u64,
         shown,
@@ -273,7 +299,7 @@ pub fn put_shade(out: &mut [u8], at: usize, s: Scene) -> usize {
 // The numbers of the text around the strip.
 fn around_of(s: Scene) -> [u64; 15] {
     let r = s.resolution;
-    let x = reach(s.used, r);
+    let x = used_reach(s);
     let h = high(s);
     [
         x,
@@ -281,10 +307,10 @@ fn around_of(s: Scene) -> [u64; 15] {
         h,
         x,
         numbers::greater(x / 2, s.font as u64),
-        x / 100,
+        s.used as u64,
         h / 2,
         s.width as u64,
-        x / 100,
+        s.used as u64,
         length_of(s.columns, r) as u64,
         s.width as u64,
         r as u64,

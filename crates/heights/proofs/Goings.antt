@@ -7,10 +7,12 @@ use Prim.Native.Nat.{ℕ, _+_, _-_, _*_, _≤_, _<_}
 use native.Mathlib.Omega.{arith}
 use native.Mathlib.Nat.{mul-le-mul-right}
 use native.Mathlib.Decide.{decLt}
+use lib.ListN.{length}
 use Rattle.geom.proofs.Strip.{lt-or-le}
 use Rattle.tables.specs.Flat.{Occupied}
 use Rattle.tables.specs.Piece.{runColumn, runLow, runHigh}
 use Rattle.tries.specs.Tries.{Column, ClearTo}
+use Rattle.tries.proofs.Parts.{partFrom, column-part, occupied-whole, clear-whole, lands-whole}
 use Rattle.walk.specs.Free.{Frame, Before, FreeTo, Least, NoHeight}
 use Rattle.walk.proofs.Jumps.{Below, below-none, run-column, taken}
 use Rattle.heights.specs.Rounds.{Settled, NextRun, RunsLeft}
@@ -57,6 +59,25 @@ going-end {f} {l} {h} {r} {N} {p} {c} {top} {y} {k} {left} g z a =
         ⊎-elim (λ u. g .before m u (omega (arith, g .among))) (λ u. g .after m b (omega arith)) (lt-or-le m k)
 
 -- what `settle` asks
+-- of a table handed over from column c on: what one run asks of it, and what it says of the whole
+pub asks-part : (f l h : List ℕ) (c x : ℕ) {lo hi y : ℕ} → c + x + 1 < length f →
+    Column f l h (c + x) × (((lo < hi) × (hi ≤ 16400) × (y ≤ 16000)) × ((z : ℕ) → Occupied f l h (c + x) z → z < 16000)) →
+    Column (partFrom f c) l h x
+    × (((lo < hi) × (hi ≤ 16400) × (y ≤ 16000)) × ((z : ℕ) → Occupied (partFrom f c) l h x z → z < 16000))
+asks-part f l h c x within a = (column-part f l h c x within (a .0), (a .1 .0, λ z o. a .1 .1 z (occupied-whole f l h c x within o)))
+
+pub settled-whole : (f l h : List ℕ) (c x : ℕ) {lo hi y z : ℕ} → c + x + 1 < length f → Settled (partFrom f c) l h x lo hi y z →
+    Settled f l h (c + x) lo hi y z
+settled-whole f l h c x within d =
+    record {
+      up = d .up;
+      free = clear-whole f l h c x within (d .free);
+      skipped =
+          λ u a b.
+          let s = d .skipped u a b in
+          record { start = s .start; end = s .end; jump = lands-whole f l h c x within (s .jump); low = s .low; high = s .high };
+    }
+
 pub asks : {f l h r : List ℕ} {N W p w t q c top y k left : ℕ} → Frame f l h r N W p w t → Before r p (N - c) q →
     Going f l h r N q c top y k left → c ≤ N → k < q → top + t ≤ W → W ≤ 16000 →
     Column f l h (c + runColumn r k)

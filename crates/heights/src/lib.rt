@@ -74,12 +74,13 @@ pub fn round_column(
     let top = s.width - s.tall;
     let n = s.columns;
     let p = walk::runs_before(runs, s.runs, n - c);
+    let here = &first[c..];
     let mut y: u16 = 0;
     let mut k = begin_with(start, p);
     let mut left = p;
     while 0 < left {
-        let col = c + runs[3 * k] as usize;
-        let z = settle(first, lows, highs, col, runs[3 * k + 1], runs[3 * k + 2], y);
+        let col = runs[3 * k] as usize;
+        let z = settle(here, lows, highs, col, runs[3 * k + 1], runs[3 * k + 2], y);
         if top < z {
             return Round::Full(k);
         }

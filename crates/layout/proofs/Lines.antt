@@ -7,12 +7,13 @@ use Prim.Native.Nat.{ℕ, zero, suc, _+_, _-_, _*_, _≤_, _<_}
 use native.Mathlib.Omega.{arith}
 use lib.Dec.{eqb}
 use lib.ListN.{length, getD, length-append}
+use Rattle.defs.specs.declared.Totals.{Totals}
 use Rattle.defs.specs.Computing.Ascii.{ascii}
-use Rattle.defs.specs.Computing.Text.{decimal, spaced, line}
+use Rattle.defs.specs.Computing.Text.{decimal, longDecimal, spaced, line, totalsLine}
 use Rattle.words.specs.Put.{Put}
 use Rattle.layoutlines.specs.Line.{fateLine, fourLine}
 use Rattle.layout.specs.Lines.{fourLines, EntriesFit}
-use Rattle.print.proofs.Puts.{either-few, decimal-few, spaced-few, Putting, put-start, put-next, put-end}
+use Rattle.print.proofs.Puts.{either-few, decimal-few, long-few, spaced-few, Putting, put-start, put-next, put-end}
 
 placed-few : (t c h : ℕ) → length (line " placed" (t ∷ c ∷ h ∷ [])) ≤ 26
 unfolding line ascii
@@ -71,3 +72,15 @@ lines-few ws i (suc n) =
 pub strip-few : (W R N : ℕ) → length (line "strip" (W ∷ R ∷ N ∷ [])) ≤ 24
 unfolding line ascii
 strip-few W R N = let ns : List ℕ = W ∷ R ∷ N ∷ [] in omega (arith, length-append (spaced ns) (10 ∷ []), spaced-few ns)
+
+pub totals-few : (t : Totals) → length (totalsLine t) ≤ 29
+unfolding totalsLine line ascii
+totals-few t =
+    let ns : List ℕ = t .placed ∷ [] in
+    omega (
+      arith,
+      length-append (longDecimal (t .used)) (line " placed" ns),
+      long-few (t .used),
+      length-append (spaced ns) (10 ∷ []),
+      spaced-few ns,
+    )

@@ -6,8 +6,8 @@ use lib.ListN.{length, getD}
 use Rattle.defs.specs.declared.Figures.{Figures}
 use Rattle.defs.specs.declared.Totals.{Totals}
 use Rattle.defs.specs.Meaning.Limits.{mostPieces}
-use Rattle.defs.specs.Computing.Text.{line}
-use Rattle.layoutlines.specs.Line.{fourLine, totalsLine}
+use Rattle.defs.specs.Computing.Text.{line, totalsLine}
+use Rattle.layoutlines.specs.Line.{fourLine}
 
 -- the lines of so many entries, from entry i on, which has ordinal i + 1
 unfoldable pub fourLines : List ℕ → ℕ → ℕ → List ℕ

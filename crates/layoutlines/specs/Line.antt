@@ -4,8 +4,6 @@ use mathlib.Core.Bool.{cond}
 use mathlib.Core.List.{List, [], _∷_, _++_}
 use Prim.Native.Nat.{ℕ}
 use lib.Dec.{eqb}
-use Rattle.defs.specs.declared.Totals.{Totals}
-use Rattle.defs.specs.Computing.Ascii.{ascii}
 use Rattle.defs.specs.Computing.Text.{decimal, spaced, line}
 
 -- `line`, of a word that is bytes
@@ -21,6 +19,3 @@ fateLine n t c h =
 
 unfoldable pub fourLine : ℕ → ℕ → ℕ → ℕ → ℕ → List ℕ
 fourLine k n t c h = decimal k ++ fateLine n t c h
-
-unfoldable pub totalsLine : Totals → List ℕ
-totalsLine t = ascii "used" ++ (spaced (t .used ∷ []) ++ line " placed" (t .placed ∷ []))

@@ -3,9 +3,9 @@
 ghost use mathlib.Core.List.{[], _∷_};
 ghost use Prim.Native.Nat.{_+_, _*_, _≤_};
 ghost use lib.ListN.{length};
-ghost use Rattle.defs.specs.Computing.Text.{line};
+ghost use Rattle.defs.specs.Computing.Text.{line, totalsLine};
 ghost use Rattle.words.specs.Put.{Put};
-ghost use Rattle.layoutlines.specs.Line.{lined, fateLine, fourLine, totalsLine};
+ghost use Rattle.layoutlines.specs.Line.{lined, fateLine, fourLine};
 use defs::Refusal;
 use defs::Totals;
 
@@ -42,11 +42,12 @@ pub fn put_entry(out: &mut [u8], at: usize, ordinal: u16, n: u16, t: u16, c: u16
 
 // The last line.
 pub fn put_totals(out: &mut [u8], at: usize, t: Totals) -> usize
-    requires { ⌜ at + 24 ≤ length (now out) ⌝ }
+    requires { ⌜ at + 29 ≤ length (now out) ⌝ }
     ensures { λ r. ⌜ Put (now (out .entry)) (now (out .exit)) at (totalsLine t) r ⌝ }
 {
     let a = print::put(out, at, b"used");
-    let b = print::put_spaced(out, a, &[t.used]);
+    out[a] = b' ';
+    let b = print::put_long(out, a + 1, t.used);
     put_line(out, b, b" placed", &[t.placed])
 }
 

@@ -36,6 +36,13 @@ pub record Four (n a b c d : ℕ) : Type 0 where
   pub third : third16 n ≡ c
   pub fourth : fourth16 n ≡ d
 
+-- two numbers of 16 bits in n and one of 32 bits, in the high ones
+pub record Wide (n a b c : ℕ) : Type 0 where
+  pub is : n ≡ packed a b c 0
+  pub first : first16 n ≡ a
+  pub second : second16 n ≡ b
+  pub high : high32 n ≡ c
+
 -- An answer in n: its number in the low 16 bits, then the ordinal of a refusal, or the values, each in 16 bits.
 pub record Packs (n : ℕ) (a : Outcome) : Type 0 where
   pub is : n ≡ packed (a .number) (a .ordinal + getD (a .values) 0 0) (getD (a .values) 1 0) (getD (a .values) 2 0)
@@ -49,3 +56,10 @@ pub record PacksWide (n : ℕ) (a : Outcome) : Type 0 where
   pub number : first16 n ≡ a .number
   pub ordinal : a .number ≢ 0 → second16 n ≡ a .ordinal
   pub values : take (length (a .values)) (high32 n ∷ []) ≡ a .values
+
+-- The same with two values: one in 16 bits, where the ordinal of a refusal is, and one in the high 32 bits.
+pub record PacksLong (n : ℕ) (a : Outcome) : Type 0 where
+  pub is : n ≡ packed (a .number) (a .ordinal + getD (a .values) 0 0) (getD (a .values) 1 0) 0
+  pub number : first16 n ≡ a .number
+  pub ordinal : a .number ≢ 0 → second16 n ≡ a .ordinal
+  pub values : take (length (a .values)) (second16 n ∷ high32 n ∷ []) ≡ a .values

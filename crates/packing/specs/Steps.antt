@@ -21,7 +21,7 @@ use Rattle.strokes.specs.Retrace.{RetraceStep}
 use Rattle.pathdefs.specs.declared.PathReading.{PathReading}
 use Rattle.pathdefs.specs.Answer.{pathReading}
 use Rattle.pathdefs.specs.Computing.Paths.{PathReadStep, PathWriteStep}
-use Rattle.packing.specs.Packed.{Packs, PacksWide}
+use Rattle.packing.specs.Packed.{Packs, PacksWide, PacksLong}
 
 pub record OpenPacked (W R N g : ℕ) (s : List ℕ) (n : ℕ) (s' : List ℕ) : Type 0 where
   pub answer : Opening
@@ -63,11 +63,11 @@ pub record WritePacked (W R N : ℕ) (ws out : List ℕ) (n : ℕ) (out' : List 
   pub step : WriteStep W R N ws out answer out'
   pub packs : PacksWide n (writing answer)
 
--- pieces placed, used columns after the number 0
+-- pieces placed after the number 0; used length in the high 32 bits
 pub record LayPacked (b : List ℕ) (g : ℕ) (s out work : List ℕ) (n : ℕ) (s' out' work' : List ℕ) : Type 0 where
   pub answer : Laying
   pub step : LayStep b g s out work answer s' out' work'
-  pub packs : Packs n (laying answer)
+  pub packs : PacksLong n (laying answer)
 
 -- the numbers of two edges after the number 0, both 0 where nothing is drawn twice
 pub record RetracePacked (o : List ℕ) (n : ℕ) : Type 0 where
@@ -108,4 +108,4 @@ CommitBytesPacked strip o p work n strip' work' = OnBytes (λ s v w s' w'. Commi
 pub record LayBytesPacked (sheet : List ℕ) (g : ℕ) (strip out work : List ℕ) (n : ℕ) (strip' out' work' : List ℕ) : Type 0 where
   pub answer : Laying
   pub step : LayBytesStep sheet g strip out work answer strip' out' work'
-  pub packs : Packs n (laying answer)
+  pub packs : PacksLong n (laying answer)

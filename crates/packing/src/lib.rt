@@ -1,9 +1,8 @@
 // An answer of several numbers in one of 64 bits.
 
-ghost use mathlib.Core.List.{[], _∷_};
 ghost use Rattle.defs.specs.Answer.{opening, covering, placing, asking, committing, reading, writing, laying, retracing};
 ghost use Rattle.pathdefs.specs.Answer.{pathReading};
-ghost use Rattle.packing.specs.Packed.{Four, Packs, PacksWide};
+ghost use Rattle.packing.specs.Packed.{Four, Packs, PacksLong, PacksWide, Wide};
 use defs::Asking;
 use defs::Committing;
 use defs::Covering;
@@ -22,11 +21,11 @@ fn pack(a: u16, b: u16, c: u16, d: u16) -> u64
     a as u64 + 65536 * (b as u64) + 4294967296 * (c as u64) + 281474976710656 * (d as u64)
 }
 
-// One number of 32 bits, in the high ones.
-fn pack_wide(n: u32) -> u64
-    ensures { λ r. ⌜ PacksWide r (record { number = 0; ordinal = 0; values = n ∷ [] }) ⌝ }
+// A number of 16 bits after the number 0, and one of 32 bits, in the high ones.
+fn pack_wide(v: u16, n: u32) -> u64
+    ensures { λ r. ⌜ Wide r 0 v n ⌝ }
 {
-    4294967296 * (n as u64)
+    65536 * (v as u64) + 4294967296 * (n as u64)
 }
 
 fn pack_refusal(f: Refusal) -> u64
@@ -48,7 +47,7 @@ pub fn pack_covering(a: Covering) -> u64
     ensures { λ r. ⌜ PacksWide r (covering a) ⌝ }
 {
     match a {
-        Covering::Runs(n) => pack_wide(n),
+        Covering::Runs(n) => pack_wide(0, n),
         Covering::Refused(f) => pack_refusal(f),
     }
 }
@@ -93,16 +92,16 @@ pub fn pack_writing(a: Writing) -> u64
     ensures { λ r. ⌜ PacksWide r (writing a) ⌝ }
 {
     match a {
-        Writing::Written(n) => pack_wide(n),
+        Writing::Written(n) => pack_wide(0, n),
         Writing::Refused(f) => pack_refusal(f),
     }
 }
 
 pub fn pack_laying(a: Laying) -> u64
-    ensures { λ r. ⌜ Packs r (laying a) ⌝ }
+    ensures { λ r. ⌜ PacksLong r (laying a) ⌝ }
 {
     match a {
-        Laying::Laid(t) => pack(0, t.placed, t.used, 0),
+        Laying::Laid(t) => pack_wide(t.placed, t.used),
         Laying::Refused(f) => pack_refusal(f),
     }
 }
@@ -121,7 +120,7 @@ pub fn pack_path_reading(a: PathReading) -> u64
     ensures { λ r. ⌜ PacksWide r (pathReading a) ⌝ }
 {
     match a {
-        PathReading::Words(n) => pack_wide(n),
+        PathReading::Words(n) => pack_wide(0, n),
         PathReading::Refused(f) => pack_refusal(f),
     }
 }

@@ -2,7 +2,7 @@
 use mathlib.Core.Path.{_≡_, refl, ap, subst, _∙_}
 use mathlib.Core.Bool.{true, false}
 use mathlib.Core.List.{List}
-use Prim.Native.Nat.{ℕ, _*_, _-_, _≤_}
+use Prim.Native.Nat.{ℕ, _*_, _-_}
 use native.Mathlib.Omega.{arith}
 use lib.ListN.{length}
 use lib.Seq.{sets}
@@ -12,12 +12,10 @@ use Rattle.defs.specs.declared.Fate.{Fate}
 use Rattle.defs.specs.declared.Placing.{Placing}
 use Rattle.defs.specs.declared.Placing.the-variants.{Placed, Refused}
 use Rattle.defs.specs.Answer.{fateWords}
-use Rattle.defs.specs.Meaning.Strip.{Limits}
-use Rattle.defs.specs.Meaning.Placing.{endColumn}
 use Rattle.defs.specs.Computing.Lay.{fateOf, heldAfter}
 use Rattle.position.specs.Table.{Tabled, NextIf, PlacedOn}
 use Rattle.fates.specs.declared.Tally.{Tally}
-use Rattle.fates.specs.Fates.{endOf, tallied}
+use Rattle.fates.specs.Fates.{edgeOf, tallied}
 use Rattle.piece.specs.Boards.{Roomy, Boards, Turns}
 use Rattle.piece.specs.Pieces.{PlaceFits, PlacedBy, PieceLaid}
 
@@ -107,17 +105,6 @@ pub roomy : {f l h f' l' h' : List ℕ} → Roomy f l h → length f' ≡ length
 roomy r a b c =
     record { firsts = omega (arith, r .firsts, a); lows = omega (arith, r .lows, b); highs = omega (arith, r .highs, c) }
 
--- a position on the strip has its last column there
-pub end-fits : {W R N : ℕ} {o : List ℕ} (a : Placing) → PlaceFits W R N o a → endOf R o a ≤ N
-unfolding endColumn
-end-fits (Placed p) x = x .on-strip p refl .columns
-end-fits (Refused r) x = omega arith
-
-pub place-ends : {W R N : ℕ} {o : List ℕ} {a : Placing} → Limits W R N → PlaceFits W R N o a → (p : Position) → a ≡ Placed p →
-    (p .turn ≤ 3) × (endColumn R o p ≤ 4096)
-unfolding endColumn
-place-ends l x p e = (x .turn p e, omega (arith, x .on-strip p e .columns, l .columns .at-most))
-
 -- one piece, by what its parts gave
 module _
     {f l h f₂ l₂ h₂ f' l' h' f₂' l₂' h₂' out out' o : List ℕ}
@@ -127,12 +114,11 @@ module _
     {e : ℕ}
     {fate : Fate}
     (x : PlacedBy (t .second) f l h f₂ l₂ h₂ f' l' h' f₂' l₂' h₂' o W R N g Q mask words a) where
-  pub piece-laid : fate ≡ fateOf a → out' ≡ sets out (4 * (t .ordinal - 1)) (fateWords fate) → e ≡ endOf R o a → t' ≡ tallied t a e N →
+  pub piece-laid : fate ≡ fateOf a → out' ≡ sets out (4 * (t .ordinal - 1)) (fateWords fate) → e ≡ edgeOf R o a → t' ≡ tallied t a e →
       PieceLaid f l h f₂ l₂ h₂ f' l' h' f₂' l₂' h₂' out out' o W R N g Q mask words t t'
   piece-laid ef eo ee et =
       record {
         turns = subst (Turns (t .second) f l h f₂ l₂ h₂ f' l' h' f₂' l₂' h₂' o W R N g Q) (x .answer) (x .turns);
         output = eo ∙ ap (λ (f : Fate). sets out (4 * (t .ordinal - 1)) (fateWords f)) (ef ∙ ap fateOf (x .answer));
-        tally = et ∙ ap (λ (n : ℕ). tallied t a n N) ee ∙ ap (λ (b : Placing). tallied t b (endOf R o b) N) (x .answer);
-        end = subst (λ (b : Placing). endOf R o b ≤ N) (x .answer) (end-fits a (x .fits));
+        tally = et ∙ ap (tallied t a) ee ∙ ap (λ (b : Placing). tallied t b (edgeOf R o b)) (x .answer);
       }

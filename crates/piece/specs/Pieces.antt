@@ -12,7 +12,7 @@ use Rattle.defs.specs.Meaning.Placing.{OnStrip}
 use Rattle.defs.specs.Computing.Calls.{placeOn}
 use Rattle.defs.specs.Computing.Lay.{fateOf}
 use Rattle.fates.specs.declared.Tally.{Tally}
-use Rattle.fates.specs.Fates.{endOf, tallied}
+use Rattle.fates.specs.Fates.{edgeOf, tallied}
 use Rattle.piece.specs.Boards.{heldBy, Turns}
 
 -- the position of a piece that is placed is on the strip
@@ -38,5 +38,4 @@ pub record PieceLaid (f l h f₂ l₂ h₂ f' l' h' f₂' l₂' h₂' out out' o
       sets out (4 * (t .ordinal - 1)) (fateWords (fateOf (answerBy (t .second) f l h f₂ l₂ h₂ o W R N g Q mask words)))
   pub tally :
       let a = answerBy (t .second) f l h f₂ l₂ h₂ o W R N g Q mask words in
-      t' ≡ tallied t a (endOf R o a) N
-  pub end : endOf R o (answerBy (t .second) f l h f₂ l₂ h₂ o W R N g Q mask words) ≤ N
+      t' ≡ tallied t a (edgeOf R o a)

@@ -20,7 +20,8 @@ use outline::Bounds;
 use records::Chain;
 use search::Way;
 
-// Places the outline on the current table, where no free position ends before column `lower`; the other one has it entered then.
+// Places the outline on the current table, where no free position has its right edge before `lower`; the other one has it entered
+// then.
 fn place_current(
     g: Figures,
     gap: u16,
@@ -35,7 +36,7 @@ fn place_current(
     o: &[u16],
     b: Bounds,
     mask: u16,
-    lower: usize,
+    lower: u32,
     work: &mut [u16],
 ) -> PlacingTries
     requires { ⌜ Boards second (now first) (now lows) (now highs) (now first2) (now lows2) (now highs2) (g .width) (g .resolution) (g .columns) gap q ⌝
@@ -99,7 +100,7 @@ fn lay_outline(
     highs2: &mut [u16],
     o: &[u16],
     mask: u16,
-    lower: usize,
+    lower: u32,
     out: &mut [u16],
     work: &mut [u16],
 ) -> Tally
@@ -130,7 +131,7 @@ fn lay_outline(
         work,
     );
     let a = x.placing;
-    let e = fates::end_of(o, b, g.resolution, a);
+    let right = fates::right_of(o, b, g.resolution, a);
     fates::put_entry(
         Entry {
             ordinal: t.ordinal,
@@ -138,15 +139,15 @@ fn lay_outline(
         },
         out,
     );
-    fates::counted(t, a, e as u16, g.columns)
+    fates::counted(t, a, right)
 }
 
-// Lays the piece of piece record `at`, of which no free position ends before column `lower`.
+// Lays the piece of piece record `at`, of which no free position has its right edge before `lower`.
 pub fn lay_piece(
     sheet: &[u8],
     v: usize,
     at: usize,
-    lower: usize,
+    lower: u32,
     g: Figures,
     gap: u16,
     q: usize,

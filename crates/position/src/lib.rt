@@ -110,8 +110,8 @@ pub fn enter_at(
     }
 }
 
-// Questions 11 to 14 of an outline with bounds b that passes those before, on a table that holds the runs of a strip, where no free position ends
-// before column `lower`; where the piece is placed, the next table holds them after it. The walk counts its tries, the way round none.
+// Questions 11 to 14 of an outline with bounds b that passes those before, on a table that holds the runs of a strip, where no free position
+// has its right edge before `lower`; where the piece is placed, the next table holds them after it. The walk counts its tries, the way round none.
 pub fn place_asked(
     g: Figures,
     gap: u16,
@@ -123,7 +123,7 @@ pub fn place_asked(
     b: Bounds,
     mask: u16,
     way: Way,
-    lower: usize,
+    lower: u32,
     work: &mut [u16],
     first2: &mut [u16],
     lows2: &mut [u16],

@@ -10,39 +10,46 @@ use lib.ListN.{length, getD, set, take, drop, length-drop, length-set, length-ap
 use lib.Seq.{sets, take-all, length-sets, drop-cons, drop-set-lt, getD-set-same}
 use lib.Dec.{ltb}
 use borrow.Author.Tests.{lt-ltb, le-ltb}
-use Rattle.defs.specs.Computing.Text.{digits, decimal, spaced}
+use Rattle.defs.specs.Computing.Text.{digits, decimal, longDecimal, spaced}
 use Rattle.laws.proofs.Stores.{sets-append}
 use Rattle.words.specs.Put.{Put}
-use Rattle.print.specs.Spelled.{Spelled}
+use Rattle.print.specs.Spelled.{bound, Enough, Spelled}
 
 -- digits
 
--- the least number of more than i digits
-unfoldable pub bound : ℕ → ℕ
-bound zero = 1
-bound (suc i) = 10 * bound i
+-- the bytes of a number of 16 bits, and of one of 32 bits
+pub decimal-enough : {n : ℕ} → n < 65536 → Enough n 5
+unfolding bound
+decimal-enough l = record { some = omega arith; small = omega arith }
+
+pub long-enough : {n : ℕ} → n < 4294967296 → Enough n 10
+unfolding bound
+long-enough l = record { some = omega arith; small = omega arith }
 
 -- the digits from place i on are set; what is left to spell is `rest`, its last digit at place i
-pub record Spelling (n : ℕ) (text : List ℕ) (rest i : ℕ) : Type 0 where
-  pub few : i < 5
-  pub long : length text ≡ 5
+pub record Spelling (k n : ℕ) (text : List ℕ) (rest i : ℕ) : Type 0 where
+  pub few : i < k
+  pub long : length text ≡ k
   pub small : rest < bound (suc i)
   pub here : getD text i 0 ≡ 48 + rest % 10
-  pub left : digits (suc i) rest (drop (suc i) text) ≡ decimal n
+  pub left : digits (suc i) rest (drop (suc i) text) ≡ digits k n []
 
-pub spell-start : (n d : ℕ) (text : List ℕ) → n < 65536 → length text ≡ 5 → d ≡ 48 + n % 10 → Spelling n (set text 4 d) n 4
-unfolding decimal bound
-spell-start n d text l e f =
-    let long : length (set text 4 d) ≤ 5 = omega (arith, length-set text 4 d) in
-    record {
-      few = omega arith;
-      long = length-set text 4 d ∙ e;
-      small = omega arith;
-      here = getD-set-same text 4 d 0 (omega arith) ∙ f;
-      left = ap (digits 5 n) (drop-of-length-le (set text 4 d) long);
-    }
+pub spell-start : {n d : ℕ} (text : List ℕ) → Enough n (length text) → d ≡ 48 + n % 10 →
+    Spelling (length text) n (set text (length text - 1) d) n (length text - 1)
+spell-start {n} {d} text m f = go (length text - 1) (omega (arith, m .some))
+  where
+    go : (i : ℕ) → length text ≡ suc i → Spelling (length text) n (set text i d) n i
+    go i e =
+        let long : length (set text i d) ≤ suc i = omega (arith, length-set text i d) in
+        record {
+          few = omega arith;
+          long = length-set text i d;
+          small = rw e at (m .small);
+          here = getD-set-same text i d 0 (omega arith) ∙ f;
+          left = ap (digits (suc i) n) (drop-of-length-le (set text i d) long) ∙ ap (λ (k : ℕ). digits k n []) (sym e);
+        }
 
-module _ {n : ℕ} {text : List ℕ} {rest i : ℕ} (s : Spelling n text rest i) where
+module _ {k n : ℕ} {text : List ℕ} {rest i : ℕ} (s : Spelling k n text rest i) where
   here-on : drop i text ≡ (48 + rest % 10) ∷ drop (suc i) text
   here-on = drop-cons text i 0 (omega (arith, s .few, s .long)) ∙ ap (λ (d : ℕ). d ∷ drop (suc i) text) (s .here)
 
@@ -54,11 +61,11 @@ module _ {n : ℕ} {text : List ℕ} {rest i : ℕ} (s : Spelling n text rest i)
       go zero h = absurd (omega arith)
       go (suc j) h = omega arith
 
-  pub spell-next : {d : ℕ} → 10 ≤ rest → d ≡ 48 + rest / 10 % 10 → Spelling n (set text (i - 1) d) (rest / 10) (i - 1)
+  pub spell-next : {d : ℕ} → 10 ≤ rest → d ≡ 48 + rest / 10 % 10 → Spelling k n (set text (i - 1) d) (rest / 10) (i - 1)
   unfolding digits bound
   spell-next {d} l f = go (i - 1) (omega (arith, spell-more l))
     where
-      go : (j : ℕ) → i ≡ suc j → Spelling n (set text j d) (rest / 10) j
+      go : (j : ℕ) → i ≡ suc j → Spelling k n (set text j d) (rest / 10) j
       go j e =
           record {
             few = omega (arith, s .few);
@@ -70,7 +77,7 @@ module _ {n : ℕ} {text : List ℕ} {rest i : ℕ} (s : Spelling n text rest i)
                 rw e at (rw (le-ltb rest 10 l) at (s .left));
           }
 
-  pub spell-end : rest < 10 → Spelled n text i
+  pub spell-end : rest < 10 → Spelled k n text i
   unfolding digits
   spell-end l = record { few = s .few; long = s .long; is = here-on ∙ rw (lt-ltb rest 10 l) at (s .left) }
 
@@ -89,6 +96,10 @@ pub decimal-few : (n : ℕ) → length (decimal n) ≤ 5
 unfolding decimal
 decimal-few n = digits-few 5 n []
 
+pub long-few : (n : ℕ) → length (longDecimal n) ≤ 10
+unfolding longDecimal
+long-few n = digits-few 10 n []
+
 -- one after another
 
 pub put-long : {o o' : List ℕ} {at r : ℕ} {xs : List ℕ} → Put o o' at xs r → length o' ≡ length o
@@ -105,12 +116,10 @@ then {o} {at = at} {xs = xs} {ys = ys} p q =
 pub same-put : {o o' : List ℕ} {at r : ℕ} {xs ys : List ℕ} → xs ≡ ys → Put o o' at xs r → Put o o' at ys r
 same-put e p = rw e at p
 
--- the digits at the end of five bytes
-pub digits-put : {o o' text : List ℕ} {at n r q : ℕ} → Spelled n text r → Put o o' at (take (5 - r) (drop r text)) q →
-    Put o o' at (decimal n) q
-digits-put {text = text} {r = r} s p =
-    let e = take-all (5 - r) (drop r text) (omega (arith, length-drop r text, s .long)) ∙ s .is in
-    record { words = rw e at (p .words); after = rw e at (p .after) }
+-- the digits at the end of k bytes
+pub digits-put : {o o' text : List ℕ} {at k n r q : ℕ} → Spelled k n text r → Put o o' at (take (k - r) (drop r text)) q →
+    Put o o' at (digits k n []) q
+digits-put {text = text} {k = k} {r = r} s = same-put (take-all (k - r) (drop r text) (omega (arith, length-drop r text, s .long)) ∙ s .is)
 
 pub one-then : {o o' : List ℕ} {at r : ℕ} {xs : List ℕ} (x : ℕ) → Put (set o at x) o' (at + 1) xs r → Put o o' at (x ∷ xs) r
 one-then {at = at} x p = record { words = p .words ∙ rw (add-one at); after = omega (arith, p .after) }

@@ -3,13 +3,16 @@
 ghost use mathlib.Core.Path.{_≡_};
 ghost use Prim.Native.Nat.{_+_, _*_, _%_, _≤_, _<_};
 ghost use lib.ListN.{length};
-ghost use Rattle.defs.specs.Computing.Text.{decimal, spaced};
+ghost use Rattle.defs.specs.Computing.Text.{decimal, longDecimal, spaced};
 ghost use Rattle.words.specs.Put.{Put};
-ghost use Rattle.print.specs.Spelled.{Spelled};
+ghost use Rattle.print.specs.Spelled.{Enough, Spelled};
 use defs::Refusal;
 
-// The bytes of a number, at most.
+// The bytes of a number of 16 bits, at most.
 const DIGITS: usize = 5;
+
+// The bytes of a number of 32 bits, at most.
+const LONG_DIGITS: usize = 10;
 
 // The bytes of a line `job refused` or `strip`, or of a message about a text, at most.
 pub const MESSAGE_ROOM: usize = 128;
@@ -28,19 +31,19 @@ pub fn put(out: &mut [u8], at: usize, bytes: &[u8]) -> usize
 }
 
 // The last digit.
-pub fn digit(n: u16) -> u8
+pub fn digit(n: u32) -> u8
     ensures { λ d. ⌜ d ≡ 48 + n % 10 ⌝ }
 {
     48 + (n % 10) as u8
 }
 
-// The digits of n, at the end of the five bytes. Answers where they begin.
-fn spell(n: u16, text: &mut [u8; DIGITS]) -> usize
-    requires { ⌜ length (now text) ≡ 5 ⌝ }
-    ensures { λ r. ⌜ Spelled n (now (text .exit)) r ⌝ }
+// The digits of n, at the end of the bytes. Answers where they begin.
+fn spell(n: u32, text: &mut [u8]) -> usize
+    requires { ⌜ Enough n (length (now text)) ⌝ }
+    ensures { λ r. ⌜ Spelled (length (now (text .entry))) n (now (text .exit)) r ⌝ }
 {
     let mut rest = n;
-    let mut i: usize = DIGITS - 1;
+    let mut i: usize = text.len() - 1;
     text[i] = digit(rest);
     while 10 <= rest {
         rest /= 10;
@@ -55,6 +58,15 @@ pub fn put_decimal(out: &mut [u8], at: usize, n: u16) -> usize
     ensures { λ r. ⌜ Put (now (out .entry)) (now (out .exit)) at (decimal n) r ⌝ }
 {
     let mut text = [0u8; DIGITS];
+    let from = spell(n as u32, &mut text);
+    put(out, at, &text[from..])
+}
+
+pub fn put_long(out: &mut [u8], at: usize, n: u32) -> usize
+    requires { ⌜ at + 10 ≤ length (now out) ⌝ }
+    ensures { λ r. ⌜ Put (now (out .entry)) (now (out .exit)) at (longDecimal n) r ⌝ }
+{
+    let mut text = [0u8; LONG_DIGITS];
     let from = spell(n, &mut text);
     put(out, at, &text[from..])
 }

@@ -48,7 +48,8 @@ pub record Promises : Type 1 where
   pub sheets : Demand2-sheets
   pub sheets-again : Demand2-again
   -- Demand 3, of every list of place, ask and commit calls; so, in document 01's own words, of place calls alone, and of every laid job.
-  -- S-4's "Two points inside different pieces must then differ by at least g in x or in y" is points-apart in `list`.
+  -- S-4's "Two points inside different pieces must then differ by at least g in x or in y" is points-apart in `list`. The best position is
+  -- that of S-7, "the least right edge wins, then least top, then least turn"; a laid job's used length is in `job`.
   pub list : Demand3-holds
   pub place-list : PlaceDemand3-holds
   pub follows : Places-follow

@@ -1,6 +1,6 @@
 -- The better of two positions, by rank. Assumes nothing.
 use mathlib.Core.Bool.{Bool, cond, _&&_, _||_}
-use Prim.Native.Nat.{ℕ, _+_, max, min}
+use Prim.Native.Nat.{ℕ, _+_, max}
 use lib.Dec.{ltb, eqb}
 use Rattle.ranks.specs.declared.Ranked.{Ranked}
 use Rattle.ranks.specs.declared.Choice.{Choice}
@@ -9,7 +9,7 @@ use Rattle.ranks.specs.declared.Tried.{Tried}
 
 -- `beats` and `better` of the definitions, by rank
 abbrev pub beatsBy : Ranked → Ranked → Bool
-beatsBy q p = ltb (q .end) (p .end) || (eqb (q .end) (p .end) && ltb (q .top) (p .top))
+beatsBy q p = ltb (q .right) (p .right) || (eqb (q .right) (p .right) && ltb (q .top) (p .top))
 
 abbrev pub betterBy : Choice → Choice → Choice
 betterBy a Nowhere = a
@@ -25,7 +25,7 @@ merged s x =
       stands = x .stands;
     }
 
--- a position that ends after this column, of n, does not win against the choice
-abbrev pub limitOf : Choice → ℕ → ℕ
-limitOf (Chosen b) n = min (b .end) n
-limitOf Nowhere n = n
+-- a position with a greater right edge does not win against the choice
+abbrev pub limitOf : Choice → ℕ
+limitOf (Chosen b) = b .right
+limitOf Nowhere = 4294967295

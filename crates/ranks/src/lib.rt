@@ -1,15 +1,18 @@
-// Positions in turns, and which of two is better.
+// Positions in turns, which of two is better, and which columns a right edge leaves to search.
 
 ghost use mathlib.Core.Path.{_≡_};
-ghost use Prim.Native.Nat.{_+_, _≤_};
+ghost use Prim.Native.Nat.{_+_, _*_, _-_, _≤_};
 ghost use Rattle.defs.specs.Meaning.Placing.{columnsFor};
 ghost use Rattle.ranks.specs.Ranks.{beatsBy, betterBy, merged, limitOf};
 use defs::Position;
 
-// A position, one more than its last column, and its top.
+// More than any right edge on a strip.
+pub const NO_EDGE: u32 = 4294967295;
+
+// A position with its rank: its right edge and its top.
 pub struct Ranked {
     pub at: Position,
-    pub end: usize,
+    pub right: u32,
     pub top: u16,
 }
 
@@ -32,14 +35,14 @@ pub struct Tried {
     pub stands: Standing,
 }
 
-// Whether q has a lesser last column than p, or the same and a lesser top.
+// Whether q has a lesser right edge than p, or the same and a lesser top.
 fn beats(q: Ranked, p: Ranked) -> bool
     ensures { λ a. ⌜ a ≡ beatsBy q p ⌝ }
 {
-    if q.end == p.end {
+    if q.right == p.right {
         return q.top < p.top;
     }
-    q.end < p.end
+    q.right < p.right
 }
 
 // The better of two; a tie goes to the first.
@@ -86,14 +89,28 @@ pub fn merge(s: Tried, x: Tried) -> Tried
     }
 }
 
-// The last column, counted from 1, of the positions that may win against the choice, in n columns.
-pub fn limit_of(c: Choice, n: usize) -> usize
-    ensures { λ e. ⌜ e ≡ limitOf c n ⌝ }
+// The greatest right edge of a position that may win against the choice.
+pub fn limit_of(c: Choice) -> u32
+    ensures { λ e. ⌜ e ≡ limitOf c ⌝ }
 {
     match c {
-        Choice::Chosen(r) => { if r.end < n { r.end } else { n } }
-        Choice::Nowhere => n,
+        Choice::Chosen(r) => r.right,
+        Choice::Nowhere => NO_EDGE,
     }
+}
+
+// "column × R + w"
+pub fn right_edge(c: u16, w: u16, r: u16) -> u32
+    ensures { λ e. ⌜ e ≡ c * r + w ⌝ }
+{
+    c as u32 * r as u32 + w as u32
+}
+
+fn rounded_up(w: usize, r: u16) -> usize
+    requires { ⌜ (1 ≤ r) × (w ≤ 4294967296) ⌝ }
+    ensures { λ c. ⌜ c ≡ columnsFor w r ⌝ }
+{
+    (w + (r as usize - 1)) / (r as usize)
 }
 
 // "w/R rounded up"
@@ -101,5 +118,16 @@ pub fn columns_for(w: u16, r: u16) -> usize
     requires { ⌜ 1 ≤ r ⌝ }
     ensures { λ c. ⌜ c ≡ columnsFor w r ⌝ }
 {
-    (w as usize + (r as usize - 1)) / (r as usize)
+    rounded_up(w as usize, r)
+}
+
+// The columns from which an extent of w ends before a right edge: so many, from the first on.
+pub fn columns_before(edge: usize, w: u16, r: u16) -> usize
+    requires { ⌜ (1 ≤ r) × (edge ≤ 4294967296) ⌝ }
+    ensures { λ c. ⌜ c ≡ columnsFor (edge - w) r ⌝ }
+{
+    if edge < w as usize {
+        return rounded_up(0, r);
+    }
+    rounded_up(edge - w as usize, r)
 }

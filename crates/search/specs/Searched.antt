@@ -10,14 +10,14 @@ use Rattle.walk.specs.declared.Spot.the-variants.{Found, None}
 use Rattle.search.specs.declared.Way.{Way}
 use Rattle.search.specs.declared.Way.the-variants.{Walk as ByWalk, Round}
 
--- no column from which the piece ends before column `lower` has a free height
-pub record FullBefore (f l h r : List ℕ) (N W p w t lower : ℕ) : Type 0 where
-  pub none : (c : ℕ) → c + w < lower → c + w ≤ N → NoHeight f l h r N W p t c
+-- no column before `from` has a free height
+pub record FullBefore (f l h r : List ℕ) (N W p w t from : ℕ) : Type 0 where
+  pub none : (c : ℕ) → c < from → c + w ≤ N → NoHeight f l h r N W p t c
 
--- the first free position; if none was found, none ends at column `limit` or before it
-abbrev pub SearchedTo : (f l h r : List ℕ) (N W p w t limit : ℕ) → Spot → Type 0
-SearchedTo f l h r N W p w t limit (Found c y) = FirstSpot f l h r N W p w t c y
-SearchedTo f l h r N W p w t limit None = (c : ℕ) → c + w ≤ limit → NoHeight f l h r N W p t c
+-- the first free position; if none was found, none is in a column before `end`
+abbrev pub SearchedTo : (f l h r : List ℕ) (N W p w t end : ℕ) → Spot → Type 0
+SearchedTo f l h r N W p w t end (Found c y) = FirstSpot f l h r N W p w t c y
+SearchedTo f l h r N W p w t end None = (c : ℕ) → c < end → c + w ≤ N → NoHeight f l h r N W p t c
 
 -- the walk counts its steps
 abbrev pub StepsBy : (f l h r : List ℕ) (N W p w t : ℕ) → Way → ℕ → Type 0
@@ -25,7 +25,7 @@ StepsBy f l h r N W p w t ByWalk n = TurnSteps f l h r N W p w t 0 n
 StepsBy f l h r N W p w t Round n = Unit {0}
 
 -- the first free position, and the tries; at most 65,536 in each of 4,097 columns
-pub record Looks (f l h r : List ℕ) (N W p w t limit : ℕ) (way : Way) (a : TurnWalk) : Type 0 where
-  pub spot : SearchedTo f l h r N W p w t limit (a .spot)
+pub record Looks (f l h r : List ℕ) (N W p w t end : ℕ) (way : Way) (a : TurnWalk) : Type 0 where
+  pub spot : SearchedTo f l h r N W p w t end (a .spot)
   pub steps : StepsBy f l h r N W p w t way (a .tries)
   pub few : a .tries ≤ 268500992

@@ -1,7 +1,7 @@
 // The least free position in one turn, by the walk or going round the runs of the piece.
 
-ghost use mathlib.Core.Path.{_≡_};
-ghost use Prim.Native.Nat.{_+_, _-_, _≤_, _<_};
+ghost use Prim.Native.Nat.{_+_, _-_, _≤_};
+ghost use Rattle.defs.specs.Meaning.Placing.{columnsFor};
 ghost use Rattle.walk.specs.Free.{Frame};
 ghost use Rattle.search.specs.Searched.{FullBefore, Looks};
 use walk::Search;
@@ -13,23 +13,17 @@ pub enum Way {
     Round,
 }
 
-// Where the columns end from which w columns go up to `limit` at most.
-fn stop_at(limit: usize, w: usize) -> usize
-    requires { ⌜ limit ≤ 4096 ⌝ }
-    ensures { λ e. ⌜ e ≡ limit + 1 - w ⌝ }
-{
-    if limit < w { 0 } else { limit - w + 1 }
+// Which right edges count, of a piece of that extent in columns of that resolution: none before `least` is free, and one past `most` may be
+// left out.
+pub struct Edges {
+    pub extent: u16,
+    pub resolution: u16,
+    pub least: u32,
+    pub most: u32,
 }
 
-// Where the columns begin from which w columns go up to `lower` at least.
-fn start_at(lower: usize, w: usize) -> usize
-    ensures { λ e. ⌜ e ≡ lower - w ⌝ }
-{
-    if lower < w { 0 } else { lower - w }
-}
-
-// The least free position of a piece, where none ends before column `lower`. Going round, only positions from there on and up to the
-// last column `limit` are tried, and no tries are counted: they are not those of the walk.
+// The least free position of a piece. Going round, only columns from which its right edge counts are tried, and no tries are counted: they
+// are not those of the walk.
 pub fn search(
     first: &[u16],
     lows: &[u16],
@@ -37,19 +31,20 @@ pub fn search(
     runs: &[u16],
     s: Search,
     way: Way,
-    lower: usize,
-    limit: usize,
+    e: Edges,
 ) -> TurnWalk
     requires { ⌜ Frame (now first) (now lows) (now highs) (now runs) (s .columns) (s .width) (s .runs) (s .wide) (s .tall) ⌝
-        ∗ ⌜ (s .width ≤ 16000) × (s .columns ≤ 4096) × (limit ≤ s .columns)
-        × FullBefore (now first) (now lows) (now highs) (now runs) (s .columns) (s .width) (s .runs) (s .wide) (s .tall) lower ⌝ }
-    ensures { λ a. ⌜ Looks (now (first .entry)) (now (lows .entry)) (now (highs .entry)) (now (runs .entry)) (s .columns) (s .width) (s .runs) (s .wide) (s .tall) limit way a ⌝ }
+        ∗ ⌜ (s .width ≤ 16000) × (s .columns ≤ 4096)
+        × FullBefore (now first) (now lows) (now highs) (now runs) (s .columns) (s .width) (s .runs) (s .wide) (s .tall)
+        (columnsFor (e .least - e .extent) (e .resolution)) ⌝ ∗ ⌜ 1 ≤ e .resolution ⌝ }
+    ensures { λ a. ⌜ Looks (now (first .entry)) (now (lows .entry)) (now (highs .entry)) (now (runs .entry)) (s .columns) (s .width) (s .runs) (s .wide) (s .tall)
+        (columnsFor (e .most + 1 - e .extent) (e .resolution)) way a ⌝ }
 {
     match way {
         Way::Walk => walk::walk_turn(first, lows, highs, runs, s),
         Way::Round => {
-            let from = start_at(lower, s.wide);
-            let end = stop_at(limit, s.wide);
+            let from = ranks::columns_before(e.least as usize, e.extent, e.resolution);
+            let end = ranks::columns_before(e.most as usize + 1, e.extent, e.resolution);
             TurnWalk {
                 spot: round::round_range(first, lows, highs, runs, s, from, end),
                 tries: 0,

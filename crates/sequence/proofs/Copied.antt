@@ -2,7 +2,7 @@
 use mathlib.Core.Path.{_≡_, refl}
 use mathlib.Core.Bool.{Bool, true, false, cond}
 use mathlib.Core.List.{List}
-use Prim.Native.Nat.{ℕ, _+_, _≤_, _<_}
+use Prim.Native.Nat.{ℕ, _≤_, _<_}
 use native.Mathlib.Omega.{arith}
 use native.Mathlib.Decide.{decLt}
 use lib.Dec.{eqb}
@@ -22,7 +22,7 @@ use Rattle.tables.proofs.Flats.{table-flat}
 use Rattle.tables.proofs.Copies.{NoneBefore, none-before-0, placed-before, refused-before}
 use Rattle.asked.proofs.InOrder.{Ordered}
 use Rattle.copies.specs.Copy.{StartsAt}
-use Rattle.fates.specs.Fates.{endOf, lowerBy}
+use Rattle.fates.specs.Fates.{edgeOf, lowerBy}
 use Rattle.piece.specs.Boards.{heldBy, Boards}
 
 pub held-table : {f l h f₂ l₂ h₂ : List ℕ} {W R N g Q : ℕ} (second : Bool) → Boards second f l h f₂ l₂ h₂ W R N g Q →
@@ -39,13 +39,13 @@ module _ (W R N g Q words : ℕ) (held : List (List Rows)) (o : List ℕ) (mask 
   side = has-side o (question-7 o .0 (y .seven))
 
   pub answer-tells : (a : Placing) → placeOn W R N g Q held o mask words ≡ a →
-      NoneBefore W R N g (heldAfter W R g held o a) o mask (lowerBy a (endOf R o a) N)
+      NoneBefore W R N g (heldAfter W R g held o a) o mask (lowerBy a (edgeOf R o a))
   unfolding heldAfter
   answer-tells (Placed p) e = placed-before W R N g Q held o mask words ten side Rpos table p e
   answer-tells (Refused r) e = go (eqb (r .number) 13) refl
     where
-      go : (b : Bool) → eqb (r .number) 13 ≡ b → NoneBefore W R N g held o mask (cond b (N + 1) 0)
-      go true f = refused-before W R N g Q held o mask words ten side Rpos table r e (eqb-true (r .number) 13 f) (N + 1)
+      go : (b : Bool) → eqb (r .number) 13 ≡ b → NoneBefore W R N g held o mask (cond b 4294967295 0)
+      go true f = refused-before W R N g Q held o mask words ten side Rpos table r e (eqb-true (r .number) 13 f) 4294967295
       go false f = none-before-0 W R N g held o mask
 
 -- a copy has the places of the piece before it

@@ -12,7 +12,7 @@ use Rattle.defs.specs.declared.Placing.{Placing}
 use Rattle.defs.specs.declared.Placing.the-variants.{Placed, Refused}
 use Rattle.defs.specs.declared.Fate.the-variants.{Placed as FatePlaced, Refused as FateRefused}
 use Rattle.defs.specs.Answer.{fateWords}
-use Rattle.defs.specs.Meaning.Placing.{endColumn}
+use Rattle.defs.specs.Meaning.Placing.{rightEdge}
 use Rattle.defs.specs.Meaning.Limits.{mostPieces}
 use Rattle.defs.specs.Meaning.Sheet.{Piece, firstPiece}
 use Rattle.defs.specs.Computing.Cells.{Rows}
@@ -26,7 +26,7 @@ use Rattle.sheets.proofs.Asking.{first-none}
 use Rattle.cutlist.specs.Pieces.{PieceAt}
 use Rattle.cutlist.proofs.Along.{Along, nextPiece, rest, along-start, along-end, along-here, along-left, along-rest, along-next}
 use Rattle.fates.specs.declared.Tally.{Tally}
-use Rattle.fates.specs.Fates.{endOf, oneIf, tallied, Few}
+use Rattle.fates.specs.Fates.{edgeOf, oneIf, tallied, Few}
 use Rattle.piece.specs.Boards.{heldBy, Boards}
 use Rattle.piece.specs.Pieces.{PieceLaid}
 use Rattle.sequence.specs.Chained.{JobReady, JobLaid}
@@ -57,11 +57,11 @@ module _ (W R N g Q words k : ℕ) (held : List (List Rows)) (p : Piece) (ps : L
       go (Placed p) = refl
       go (Refused r) = refl
 
-  used-step : usedIn R (p ∷ ps) (entriesFrom W R N g Q words k held (p ∷ ps)) ≡ max (endOf R (p .outline) a) (usedIn R ps after)
+  used-step : usedIn R (p ∷ ps) (entriesFrom W R N g Q words k held (p ∷ ps)) ≡ max (edgeOf R (p .outline) a) (usedIn R ps after)
   unfolding entriesFrom usedIn
   used-step = ap (λ (n : ℕ). max n (usedIn R ps after)) (go a)
     where
-      go : (a : Placing) → (elim (fateOf a) [ FatePlaced q ↦ endColumn R (p .outline) q | FateRefused n ↦ 0 ]) ≡ endOf R (p .outline) a
+      go : (a : Placing) → (elim (fateOf a) [ FatePlaced q ↦ rightEdge R (p .outline) q | FateRefused n ↦ 0 ]) ≡ edgeOf R (p .outline) a
       go (Placed q) = refl
       go (Refused r) = refl
 
@@ -92,7 +92,7 @@ one-most (Refused r) = omega arith
 abbrev pub restPieces : List ℕ → ℕ → ℕ → List Piece
 restPieces b left at = map (pieceOf b) (rest b left at)
 
--- what the whole job comes to: its output, pieces placed, used columns and runs
+-- what the whole job comes to: its output, pieces placed, used length and runs
 pub record Whole : Type 0 where
   pub output : List ℕ
   pub placed : ℕ
@@ -119,7 +119,6 @@ pub record Going (b : List ℕ) (v : ℕ) (W R N g Q words : ℕ) (x : Whole) (a
   pub passes : firstNo (sheetPieceNo b) (t .ordinal) (rest b left at) ≡ none
   pub place : t .ordinal + left ≡ 201
   pub placed : t .placed + left ≤ 200
-  pub used : t .used ≤ 4096
   pub first : 1 ≤ t .ordinal
   pub boards : Boards (t .second) f l h f₂ l₂ h₂ W R N g Q
   pub same : length out ≡ long
@@ -143,7 +142,6 @@ going-start words r e =
       passes = rw e (r .none-no .is);
       place = refl;
       placed = omega arith;
-      used = omega arith;
       first = omega arith;
       boards = r .boards;
       same = refl;
@@ -204,7 +202,7 @@ module _
     entries = entriesFrom W R N g Q words (t .ordinal + 1) then-held (map (pieceOf b) later)
 
     abbrev next-tally : Tally
-    next-tally = tallied t answer (endOf R (piece .outline) answer) N
+    next-tally = tallied t answer (edgeOf R (piece .outline) answer)
 
     -- the whole by the pieces after this one
     whole-next :
@@ -232,7 +230,6 @@ module _
           passes = pass .1;
           place = omega (arith, s .place, some);
           placed = omega (arith, s .placed, some, one-most answer);
-          used = omega (arith, s .used, y .end, s .boards .limits .columns .at-most);
           first = omega arith;
           boards = y .turns .boards;
           same = ap length (y .output) ∙ length-sets out (4 * (t .ordinal - 1)) (fateWords (fateOf answer)) ∙ s .same;

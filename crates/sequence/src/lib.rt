@@ -6,7 +6,7 @@ ghost use Rattle.sequence.specs.Chained.{JobReady, JobLaid};
 use defs::Figures;
 use fates::Tally;
 
-// Lays the pieces of the chain. A copy of the piece before it is searched from where that one's position ended.
+// Lays the pieces of the chain. A copy of the piece before it is searched from that one's right edge on.
 pub fn lay_chain(
     sheet: &[u8],
     v: usize,

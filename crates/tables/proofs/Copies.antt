@@ -1,12 +1,12 @@
--- Copies of a piece: where no free position of an outline in its allowed turns ends before some column, none does when more cells are
--- held; and a piece that is placed, or has no place, says so of its copies.
+-- Copies of a piece: where no free position of an outline in its allowed turns has a right edge before some place, none has when more cells
+-- are held; and a piece that is placed, or has no place, says so of its copies.
 -- Assumes nothing.
 use mathlib.Core.Path.{_≡_, refl, ap, subst}
 use mathlib.Core.Logic.{inl, ⊎-elim}
 use mathlib.Core.Bool.{Bool, true, false}
 use mathlib.Core.List.{List}
 use mathlib.Core.Option.{Option, none, some}
-use Prim.Native.Nat.{ℕ, zero, suc, _+_, _≤_, _<_}
+use Prim.Native.Nat.{ℕ, zero, suc, _+_, _*_, _≤_, _<_}
 use native.Mathlib.Omega.{arith}
 use lib.Dec.{eqb, eqb·suc-zero}
 use Rattle.defs.specs.declared.Position.{Position}
@@ -15,7 +15,7 @@ use Rattle.defs.specs.declared.Placing.{Placing}
 use Rattle.defs.specs.declared.Placing.the-variants.{Placed, Refused}
 use Rattle.defs.specs.Meaning.Outline.{sides, KeepsOrder}
 use Rattle.defs.specs.Meaning.Turn.{turned, extentX, extentY, Allows}
-use Rattle.defs.specs.Meaning.Placing.{columnsFor, endColumn, Free, Fits, Later, Best}
+use Rattle.defs.specs.Meaning.Placing.{columnsFor, rightEdge, Free, Fits, Later, Best}
 use Rattle.defs.specs.Meaning.Question.{Question10, Question13}
 use Rattle.defs.specs.Computing.Test.{ask}
 use Rattle.defs.specs.Computing.Cells.{Rows, pieceRuns, ordersb}
@@ -27,9 +27,9 @@ use Rattle.tables.proofs.FreeTest.{free-decides}
 use Rattle.tables.proofs.Entered.{entered-cells}
 use Rattle.tables.proofs.Searching.{best-found, none-found}
 
--- no free position of the outline in an allowed turn ends before column `lower`
+-- no free position of the outline in an allowed turn has its right edge before `lower`
 pub record NoneBefore (W R N g : ℕ) (held : List (List Rows)) (o : List ℕ) (mask lower : ℕ) : Type 0 where
-  pub none : (q : Position) → Fits W R N g (In held) o mask q → lower ≤ endColumn R o q
+  pub none : (q : Position) → Fits W R N g (In held) o mask q → lower ≤ rightEdge R o q
 
 pub none-before-0 : (W R N g : ℕ) (held : List (List Rows)) (o : List ℕ) (mask : ℕ) → NoneBefore W R N g held o mask 0
 none-before-0 W R N g held o mask = record { none = λ q f. omega arith }
@@ -46,20 +46,20 @@ more-held more h =
           (record { allowed = f .allowed; on-strip = f .on-strip; free = λ i j c taken. f .free i j c (more i j taken) });
     }
 
--- a position of an allowed turn that ends before that column is not free
+-- a position of an allowed turn whose right edge is before that is not free
 pub not-free : {W R N g : ℕ} {held : List (List Rows)} {o : List ℕ} {mask lower t : ℕ} → NoneBefore W R N g held o mask lower → Allows mask t →
-    KeepsOrder (turned o t) → 0 < sides o → 1 ≤ R → Table W N held → (c y : ℕ) → c + columnsFor (extentX o t) R < lower →
+    KeepsOrder (turned o t) → 0 < sides o → 1 ≤ R → Table W N held → (c y : ℕ) → c * R + extentX o t < lower →
     c + columnsFor (extentX o t) R ≤ N → y + extentY o t ≤ W → ¬ (freeb y (pieceRuns o t R g) (dropN c held) ≡ true)
-unfolding endColumn
+unfolding rightEdge
 not-free {W} {R} {N} {g} {held} {o} {mask} {lower} {t} h allows keeps some-side Rpos table c y before columns rows e =
-    let at-end =
+    let at-edge =
     h .none (position t c y)
     (record {
       allowed = allows;
       on-strip = record { columns = columns; rows = rows };
       free = free-decides W R N g held o (position t c y) keeps some-side Rpos table .0 e;
     }) in
-    omega (arith, at-end)
+    omega (arith, at-edge)
 
 -- no question from 7 to 11 is 13
 not-13 : (a b c d e : Bool) → ¬ (_≡_ {A = ℕ} (ask a 7 λ _. ask b 8 λ _. ask c 9 λ _. ask d 10 λ _. ask e 11 λ _. 0) 13)
@@ -97,26 +97,26 @@ module _ (W R N g Q : ℕ) (held : List (List Rows)) (o : List ℕ) (mask words 
       go (suc m) n b x = rw (eqb·suc-zero m) (λ e. absurd (n e))
 
   module _ (keeps : Question10 o mask) (some-side : 0 < sides o) (Rpos : 1 ≤ R) (table : Table W N held) where
-    -- the best position ends before no other
-    first-end : (p : Position) → Best W R N g (In held) o mask p → NoneBefore W R N g held o mask (endColumn R o p)
+    -- no other right edge is before that of the best position
+    first-edge : (p : Position) → Best W R N g (In held) o mask p → NoneBefore W R N g held o mask (rightEdge R o p)
     unfolding Later
-    first-end p best =
+    first-edge p best =
         record {
           none =
               λ q f.
-              ⊎-elim (λ (e : q ≡ p). omega (arith, ap (endColumn R o) e))
+              ⊎-elim (λ (e : q ≡ p). omega (arith, ap (rightEdge R o) e))
               (λ n. ⊎-elim (λ l. omega arith) (⊎-elim (λ l. omega (arith, l .0)) (λ l. omega (arith, l .0))) (best .first q f n))
               (same-or-not q p);
         }
 
-    -- a copy of a piece that is placed ends there or later
+    -- a copy of a piece that is placed has its right edge there or further on
     pub placed-before : (p : Position) → placeOn W R N g Q held o mask words ≡ Placed p →
-        NoneBefore W R N g (entered W R g held o p) o mask (endColumn R o p)
+        NoneBefore W R N g (entered W R g held o p) o mask (rightEdge R o p)
     unfolding Question10
     placed-before p e =
         let best = best-found W R N g held o mask keeps some-side Rpos table p (subst (Says (bestBelow W R N g held o mask 4)) e says) in
         let cells = entered-cells W R N g held o p (keeps (p .turn) (best .fits .allowed)) some-side Rpos table in
-        more-held (λ i j taken. cells i j .1 (inl taken)) (first-end p best)
+        more-held (λ i j taken. cells i j .1 (inl taken)) (first-edge p best)
 
     -- a copy of a piece that has no place has none either
     pub refused-before : (r : Refusal) → placeOn W R N g Q held o mask words ≡ Refused r → r .number ≡ 13 → (lower : ℕ) →

@@ -1,5 +1,5 @@
 -- The position found among all turns is the best, and where none is found there is none: turns are taken from 0 on, and one replaces
--- the best so far only by a lesser last column, or by the same and a lesser top, so that a tie goes to the least turn.
+-- the best so far only by a lesser right edge, or by the same and a lesser top, so that a tie goes to the least turn.
 -- Assumes nothing.
 use mathlib.Core.Path.{_≡_, refl, sym, ap, subst, _∙_}
 use mathlib.Core.Logic.{_↔_, _⊎_, inl, inr, ⊎-elim, _≢_}
@@ -13,7 +13,7 @@ use Rattle.defs.specs.Meaning.Limits.{mostTurn}
 use Rattle.defs.specs.Meaning.Outline.{sides}
 use Rattle.defs.specs.Meaning.Turn.{Allows}
 use Rattle.defs.specs.Meaning.Cell.{Cells}
-use Rattle.defs.specs.Meaning.Placing.{endColumn, top, Fits, Later, Best}
+use Rattle.defs.specs.Meaning.Placing.{rightEdge, top, Fits, Later, Best}
 use Rattle.defs.specs.Meaning.Question.{Question10, Question13}
 use Rattle.defs.specs.Computing.Cells.{Rows, allowedb}
 use Rattle.defs.specs.Computing.Search.{firstFree, beats, better, bestBelow}
@@ -26,7 +26,7 @@ use Rattle.tables.proofs.FirstFree.{first-found, first-none}
 
 beats-decides : (R : ℕ) (o : List ℕ) (q p : Position) →
     Decides (beats R o q p)
-    ((endColumn R o q < endColumn R o p) ⊎ ((endColumn R o q ≡ endColumn R o p) × (top o q < top o p)))
+    ((rightEdge R o q < rightEdge R o p) ⊎ ((rightEdge R o q ≡ rightEdge R o p) × (top o q < top o p)))
 unfolding beats
 beats-decides R o q p = or-decides (ltb-decides _ _) (and-decides (eqb-decides _ _) (ltb-decides _ _))
 
@@ -35,13 +35,13 @@ unfolding Later
 beats-first R o q p e = ⊎-elim inl (λ h. inr (inl h)) (beats-decides R o q p .0 e)
 
 -- a tie goes to the lesser turn
-unbeaten-first : (R : ℕ) (o : List ℕ) (q p : Position) → p .turn < q .turn → beats R o q p ≢ true → Later R o p q
+unbeaten-first : (R : ℕ) (o : List ℕ) (q p : Position) → 1 ≤ R → p .turn < q .turn → beats R o q p ≢ true → Later R o p q
 unfolding Later
-unbeaten-first R o q p l n =
+unbeaten-first R o q p Rpos l n =
     ⊎-elim (λ h. h)
     (⊎-elim (λ h. absurd (n (beats-decides R o q p .1 (inl h))))
     (⊎-elim (λ h. absurd (n (beats-decides R o q p .1 (inr h)))) (λ h. absurd (omega (arith, h .2)))))
-    (later-total R o p q (λ e. omega (arith, ap (λ (a : Position). a .turn) e)))
+    (later-total R o p q Rpos (λ e. omega (arith, ap (λ (a : Position). a .turn) e)))
 
 -- the positions in a turn less than t, and those in turn t
 abbrev Below : ℕ → Position → Type 0
@@ -81,23 +81,23 @@ module _ (W R N g : ℕ) (Occupied : Cells) (o : List ℕ) (mask : ℕ) where
   before-best S p q l b r h f =
       ⊎-elim (λ (e : r ≡ q). subst (Later R o p) (sym e) l) (λ n. later-transitive R o p q r l (b .first r h f n)) (same-or-not r q)
 
-  better-finds : (t : ℕ) (x y : Option Position) → Finds (Below t) x → Finds (Turned t) y → Finds (Below (suc t)) (better R o x y)
+  better-finds : 1 ≤ R → (t : ℕ) (x y : Option Position) → Finds (Below t) x → Finds (Turned t) y → Finds (Below (suc t)) (better R o x y)
   unfolding better
-  better-finds t none none a b = λ r h f. ⊎-elim (λ l. a r l f) (λ e. b r e f) (below-or-turned t r h)
-  better-finds t none (some q) a b =
+  better-finds Rpos t none none a b = λ r h f. ⊎-elim (λ l. a r l f) (λ e. b r e f) (below-or-turned t r h)
+  better-finds Rpos t none (some q) a b =
       best-of-more (Turned t) (Below (suc t)) q (omega (arith, b .member)) b
       (λ r h f. ⊎-elim (λ l. absurd (a r l f)) inl (below-or-turned t r h))
-  better-finds t (some p) none a b =
+  better-finds Rpos t (some p) none a b =
       best-of-more (Below t) (Below (suc t)) p (omega (arith, a .member)) a
       (λ r h f. ⊎-elim inl (λ e. absurd (b r e f)) (below-or-turned t r h))
-  better-finds t (some p) (some q) a b = go (beats R o q p) refl
+  better-finds Rpos t (some p) (some q) a b = go (beats R o q p) refl
     where
       go : (c : Bool) → beats R o q p ≡ c → Finds (Below (suc t)) (cond c (some q) (some p))
       go true e =
           best-of-more (Turned t) (Below (suc t)) q (omega (arith, b .member)) b
           (λ r h f. ⊎-elim (λ l. inr (before-best (Below t) q p (beats-first R o q p e) a r l f)) inl (below-or-turned t r h))
       go false e =
-          let l = unbeaten-first R o q p (omega (arith, a .member, b .member)) (λ w. false≢true (sym e ∙ w)) in
+          let l = unbeaten-first R o q p Rpos (omega (arith, a .member, b .member)) (λ w. false≢true (sym e ∙ w)) in
           best-of-more (Below t) (Below (suc t)) p (omega (arith, a .member)) a
           (λ r h f. ⊎-elim inl (λ u. inr (before-best (Turned t) p q l b r u f)) (below-or-turned t r h))
 
@@ -116,7 +116,7 @@ module _ (W R N g : ℕ) (held : List (List Rows)) (o : List ℕ) (mask : ℕ)
           record {
             member = f .0;
             fits = f .1 .fits;
-            first = λ q u g n. before-later R o p q (f .0 ∙ sym u) (f .1 .least q g (u ∙ sym (f .0)) n);
+            first = λ q u g n. before-later R o p q Rpos (f .0 ∙ sym u) (f .1 .least q g (u ∙ sym (f .0)) n);
           }
 
   turn-finds : (t : ℕ) → t ≤ mostTurn → Found (Turned t) (cond (allowedb mask t) (firstFree W R N g held o t) none)
@@ -129,7 +129,7 @@ module _ (W R N g : ℕ) (held : List (List Rows)) (o : List ℕ) (mask : ℕ)
   finds : (n : ℕ) → n ≤ suc mostTurn → Found (Below n) (bestBelow W R N g held o mask n)
   unfolding bestBelow
   finds zero h = λ q l. absurd (omega arith)
-  finds (suc t) h = better-finds W R N g (In held) o mask t _ _ (finds t (omega arith)) (turn-finds t (omega arith))
+  finds (suc t) h = better-finds W R N g (In held) o mask Rpos t _ _ (finds t (omega arith)) (turn-finds t (omega arith))
 
   -- every turn that may be allowed is below 4
   found : (x : Option Position) → bestBelow W R N g held o mask 4 ≡ x → Found (Below 4) x

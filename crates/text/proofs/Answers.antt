@@ -20,19 +20,18 @@ use Rattle.defs.specs.Computing.Ascii.{ascii}
 use Rattle.defs.specs.Computing.Words.{gapb, limitsNo, lengthb}
 use Rattle.defs.specs.Computing.Sheets.{q1b, q2b, q6b, pieceOf, pieceRecords, sheetPieces, sheetNo}
 use Rattle.defs.specs.Computing.Lay.{entriesWords, layEntries, layAnswer, layOutput, LayStep}
-use Rattle.defs.specs.Computing.Text.{spaced, line, entryLines, programStrip, programWork, layText}
+use Rattle.defs.specs.Computing.Text.{spaced, line, entryLines, programStrip, programWork, totalsLine, layText}
 use Rattle.laws.proofs.Tests.{asked}
 use Rattle.laws.proofs.Questions.{question-2}
 use Rattle.sheets.proofs.Asking.{some-none}
 use Rattle.sheets.proofs.Passing.{few-read}
 use Rattle.sheets.proofs.Answers.{said, figuresOf, not-refused}
 use Rattle.words.specs.Put.{Put}
-use Rattle.layoutlines.specs.Line.{totalsLine}
 use Rattle.layout.specs.Lines.{fourLines, laidLines, LaidFits}
 use Rattle.lent.specs.Strips.{StripFor, exact, early, StripWords}
 use Rattle.text.specs.Lent.{Answered, Passes, Shows}
 use Rattle.print.proofs.Puts.{put-long, spaced-few}
-use Rattle.layout.proofs.Lines.{strip-few, lines-few}
+use Rattle.layout.proofs.Lines.{strip-few, lines-few, totals-few}
 use Rattle.layout.proofs.Entries.{job-words, job-lines}
 
 -- the first n words of the greatest strip
@@ -110,8 +109,7 @@ printed b a =
     elim a [
       | Laid t ↦
           line "strip" (sheetW b ∷ sheetR b ∷ sheetN b ∷ []) ++
-          (entryLines (layEntries b 0 (programStrip b) programWork) ++
-          (ascii "used" ++ (spaced (t .used ∷ []) ++ line " placed" (t .placed ∷ []))))
+          (entryLines (layEntries b 0 (programStrip b) programWork) ++ totalsLine t)
       | NotLaid r ↦ line "job refused" (r .number ∷ r .ordinal ∷ [])
     ]
 
@@ -147,27 +145,21 @@ module _ {b ws : List ℕ} {t : Totals} {n : ℕ} (s : Answered b ws (Laid t)) (
       }
 
   laid-text : laidLines (figuresOf b) ws n t ≡ printed b (Laid t)
-  unfolding layEntries laidLines totalsLine
+  unfolding layEntries laidLines
   laid-text = rw (is-pieces, job-lines _ _ _ _ _ _ (sheetPieces b) ws (s .rest) (s .output t refl))
 
   laid-few : length (laidLines (figuresOf b) ws n t) ≤ 8192
-  unfolding laidLines totalsLine line ascii
+  unfolding laidLines
   laid-few =
-      let used : List ℕ = t .used ∷ [] in
-      let placed : List ℕ = t .placed ∷ [] in
-      let last = line " placed" placed in
       omega (
         arith,
         is-pieces,
         few-read b,
         strip-few (sheetW b) (sheetR b) (sheetN b),
         lines-few ws 0 n,
-        spaced-few used,
-        spaced-few placed,
+        totals-few t,
         length-append (line "strip" (sheetW b ∷ sheetR b ∷ sheetN b ∷ [])) (fourLines ws 0 n ++ totalsLine t),
         length-append (fourLines ws 0 n) (totalsLine t),
-        length-append (spaced used) last,
-        length-append (spaced placed) (10 ∷ []),
       )
 
   pub laid-shows : {f : Figures} {out out' : List ℕ} {r : ℕ} → 8192 ≤ length out → f ≡ figuresOf b → Put out out' 0 (laidLines f ws n t) r → Shows b out' r

@@ -123,9 +123,9 @@ pub extern "C" fn vikelodu_write(
     packing::pack_writing(a)
 }
 
-// The lay call: pieces placed and used columns after the number 0.
+// The lay call: pieces placed after the number 0; used length in the high 32 bits.
 #[no_mangle]
-pub extern "C" fn vikelodu_lay_4(
+pub extern "C" fn vikelodu_lay_7(
     sheet: &[u8],
     gap: u16,
     strip: &mut [u16],
@@ -239,7 +239,7 @@ pub extern "C" fn vikelodu_commit_bytes(
 
 // The lay call on buffers passed as bytes.
 #[no_mangle]
-pub extern "C" fn vikelodu_lay_bytes_4(
+pub extern "C" fn vikelodu_lay_bytes_7(
     sheet: &[u8],
     gap: u16,
     strip: &mut [u8],

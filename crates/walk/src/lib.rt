@@ -104,15 +104,16 @@ pub fn walk_column(
     let top = s.width - s.tall;
     let n = s.columns;
     let p = runs_before(runs, s.runs, n - c);
+    let here = &first[c..];
     let mut y: u16 = 0;
     let mut k = 0;
     let mut stay = top;
     let mut tries: u32 = 1;
     while k < p {
-        let col = c + runs[3 * k] as usize;
+        let col = runs[3 * k] as usize;
         let lo = runs[3 * k + 1];
         let hi = runs[3 * k + 2];
-        match tries::try_run(first, lows, highs, col, lo, hi, y, stay) {
+        match tries::try_run(here, lows, highs, col, lo, hi, y, stay) {
             Tried::Clear(z) => {
                 stay = z;
                 k += 1;

@@ -1,7 +1,8 @@
 //! The public calls, as include/vikelodu.h declares them. Nothing checks these
 //! declarations against the engine, so they are few and plain. Names that end in _4
 //! are of the calls that request S-4 gave a gap, those in _5 of the calls whose answer
-//! has had tries beside it since S-5.
+//! has had tries beside it since S-5, those in _7 of the calls whose answer has had the
+//! used length since S-7.
 
 use reference::retrace::EdgePair;
 use reference::{Figures, Position, Refusal, Totals, Tried};
@@ -76,7 +77,7 @@ mod exported {
             output: *mut u8,
             output_bytes: usize,
         ) -> u64;
-        pub fn vikelodu_lay_4(
+        pub fn vikelodu_lay_7(
             sheet: *const u8,
             sheet_bytes: usize,
             gap: u16,
@@ -137,7 +138,7 @@ mod exported {
             work: *mut u8,
             work_bytes: usize,
         ) -> u64;
-        pub fn vikelodu_lay_bytes_4(
+        pub fn vikelodu_lay_bytes_7(
             sheet: *const u8,
             sheet_bytes: usize,
             gap: u16,
@@ -200,10 +201,9 @@ fn wide(answer: u64) -> Result<u32, Refusal> {
 /// Of lay.
 fn laid(answer: u64) -> Result<Totals, Refusal> {
     let answer = granted(answer)?;
-    assert_eq!(answer >> 48, 0, "more than the totals: {answer:#x}");
     Ok(Totals {
         placed: word(answer, 16),
-        used: word(answer, 32),
+        used: (answer >> 32) as u32,
     })
 }
 
@@ -327,7 +327,7 @@ pub fn lay(
 ) -> Result<Totals, Refusal> {
     // Sound, as above. The slices share nothing: three are lent to be written, the fourth to be read.
     laid(unsafe {
-        exported::vikelodu_lay_4(
+        exported::vikelodu_lay_7(
             sheet.as_ptr(),
             sheet.len(),
             g,
@@ -441,7 +441,7 @@ pub fn lay_bytes(
 ) -> Result<Totals, Refusal> {
     // Sound, as above.
     laid(unsafe {
-        exported::vikelodu_lay_bytes_4(
+        exported::vikelodu_lay_bytes_7(
             sheet.as_ptr(),
             sheet.len(),
             g,

@@ -35,6 +35,6 @@ pub fn job_of_input() -> (u16, Vec<u8>) {
 }
 
 /// An eighth is exact in floating point.
-pub fn in_millimetres(units: u16) -> f64 {
-    f64::from(units) / 8.0
+pub fn in_millimetres(units: impl Into<f64>) -> f64 {
+    units.into() / 8.0
 }

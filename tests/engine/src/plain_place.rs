@@ -23,9 +23,10 @@ pub struct Board {
 /// A piece in a turn, with the strip's gap.
 struct Piece {
     turn: u16,
+    w: usize,
+    h: u16,
     /// Columns wide.
     wide: usize,
-    h: u16,
     runs: Vec<[u16; 3]>,
 }
 
@@ -34,8 +35,9 @@ impl Piece {
         let (w, h) = turned.extent();
         Piece {
             turn,
-            wide: (w as usize).div_ceil(usize::from(r)),
+            w: w as usize,
             h: h as u16,
+            wide: (w as usize).div_ceil(usize::from(r)),
             runs: turned.runs(r, g),
         }
     }
@@ -124,7 +126,8 @@ impl Board {
         let found = pieces
             .iter()
             .filter_map(|piece| self.least_free(piece, tries).map(|spot| (piece, spot)));
-        let best = found.min_by_key(|(piece, (c, y))| (c + piece.wide, y + piece.h, piece.turn));
+        let r = usize::from(self.r);
+        let best = found.min_by_key(|(piece, (c, y))| (c * r + piece.w, y + piece.h, piece.turn));
         let Some((piece, (c, y))) = best else {
             return Err(no(13, 1));
         };

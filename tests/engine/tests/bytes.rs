@@ -9,9 +9,9 @@ use reference::figures::{no, Piece, NUMBERS};
 use reference::generate::outlines::zigzag_of;
 use reference::generate::{
     any_figures, any_gap, any_mask, any_outline, any_turn, change_words, damaged_sheet,
-    damaged_strip, job, small_figures, small_gap, sound_outline, sound_sheet, sound_strip,
-    strip_with, Call, CommitCall, Damage, Job, MixedList, PlaceCall, Random, SheetDamage,
-    SheetPlan, StripFigures,
+    damaged_strip, job, long_job, small_figures, small_gap, sound_outline, sound_sheet,
+    sound_strip, strip_with, tied_job, Call, CommitCall, Damage, Job, MixedList, PlaceCall, Random,
+    SheetDamage, SheetPlan, StripFigures,
 };
 use reference::{runs, Figures, Position, Refusal, Totals, Tried};
 use std::fmt::Debug;
@@ -1009,6 +1009,33 @@ fn empty_buffers() {
     });
 }
 
+/// Jobs whose turns end in one column or at one right edge, and on long strips.
+#[test]
+fn right_edges() {
+    on_large_stack(|| {
+        let mut both = Both::new(534);
+        let mut random = Random::new(535);
+        let mut over = 0;
+        for round in 0..1_000 {
+            let job = match round % 20 {
+                0 => long_job(&mut random),
+                _ => tied_job(&mut random),
+            };
+            let lengths = Lengths {
+                g: random.pick(&[0, 0, 1, 2]),
+                strip: strip_bytes(job.figures.columns, random.pick(&[20, 400])),
+                output: 8 * job.pieces.len() + random.index(4),
+                work: random.pick(&[2_000, 18_000]),
+            };
+            let (answer, _) = both.lay(&job.sheet(), lengths);
+            let used = answer.expect("a sound job").used;
+            over += u32::from(used > 65_535);
+        }
+        println!("over 65,535: {over}");
+        assert!(over > 10);
+    });
+}
+
 /// Any bytes at all.
 #[test]
 fn any_bytes() {
@@ -1081,7 +1108,7 @@ fn on_a_small_stack() {
         let mut output = vec![0; 24];
         assert_eq!(
             engine::lay_bytes(&squares(3), 0, &mut strip, &mut output, &mut work),
-            Ok(Totals { placed: 3, used: 4 })
+            Ok(Totals { placed: 3, used: 8 })
         );
     });
 }

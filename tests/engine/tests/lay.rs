@@ -10,9 +10,10 @@ use reference::distance::{too_close, Shape};
 use reference::figures::{no, Piece, NUMBERS};
 use reference::generate::outlines::{is_sound, zigzag_of};
 use reference::generate::{
-    any_figures, any_gap, damaged_sheet, small_figures, small_gap, sound_gap, sound_mask,
-    sound_outline, sound_pieces, sound_sheet, Job, Random, SheetDamage, SheetPlan,
+    any_figures, any_gap, damaged_sheet, long_job, small_figures, small_gap, sound_gap, sound_mask,
+    sound_outline, sound_pieces, sound_sheet, tied_job, Job, Random, SheetDamage, SheetPlan,
 };
+use reference::placing::Steps;
 use reference::{runs, strip_runs, Figures, Position, Refusal, Totals};
 
 /// The gap, and the words of the buffers lent.
@@ -271,6 +272,91 @@ fn small_jobs() {
     assert!(exact >= 1_500);
     both.came(13_000, 3_000, &[0], &[0, 12, 13, 14]);
     assert!(both.turns.iter().all(|&times| times > 2_000));
+}
+
+/// How often each step of S-7's order is needed, by the engine's own place calls.
+fn count_steps(steps: &mut Steps, job: &Job, g: u16) {
+    let Figures {
+        width,
+        resolution,
+        columns,
+    } = job.figures;
+    let mut strip = vec![0; strip_words(columns, 2_000)];
+    let opened = engine::open(width, resolution, columns, g, &mut strip);
+    assert_eq!(opened, Ok(()));
+    for piece in &job.pieces {
+        steps.count(&strip, &piece.outline, piece.mask);
+        engine::place(&mut strip, &piece.outline, piece.mask, &mut [0; 900]);
+    }
+}
+
+/// Jobs whose turns end in one column or at one right edge.
+#[test]
+fn tied_jobs() {
+    let mut both = Both::new();
+    let mut random = Random::new(94);
+    let mut steps = Steps::default();
+    for round in 0..8_000 {
+        let job = tied_job(&mut random);
+        let sheet = sheet_of(&mut random, &job);
+        let q = random.between(1, 80) as usize;
+        let g = match round % 2 {
+            0 => small_gap(&mut random, job.figures.resolution),
+            _ => 0,
+        };
+        both.granted(&job, &sheet, enough_with_gap(&job, g, q));
+        count_steps(&mut steps, &job, g);
+    }
+    println!("{steps:?}");
+    assert!(steps.edge > 8_000 && steps.top > 800 && steps.turn > 8_000);
+    both.came(8_000, 1_000, &[0], &[0, 13, 14]);
+    assert!(both.turns.iter().all(|&times| times > 1_000));
+}
+
+/// Long strips, on which the used length is over 16 bits.
+#[test]
+fn long_jobs() {
+    let mut both = Both::new();
+    let mut random = Random::new(95);
+    let (mut over, mut most) = (0, 0);
+    for _ in 0..150 {
+        let job = long_job(&mut random);
+        let g = random.pick(&[0, 0, 0, 1, 2, 40, 400]);
+        let q = random.pick(&[60, 400, 4_000]);
+        let words = enough_with_gap(&job, g, q);
+        let used = both.granted(&job, &sheet_of(&mut random, &job), words).used;
+        over += u32::from(used > 65_535);
+        most = most.max(used);
+    }
+    println!("over 65,535: {over}, the most {most}");
+    assert!(over > 40);
+    both.came(150, 50, &[0], &[0, 14]);
+}
+
+/// Five pieces of 16,000 by 1; then as many as the longest strip takes, which ends with
+/// one of 6,400: N × R.
+#[test]
+fn the_greatest_used_length() {
+    let mut both = Both::new();
+    let bar = |long: u16| Piece {
+        outline: vec![0, 0, long, 0, long, 1, 0, 1],
+        mask: 1,
+    };
+    let mut job = Job {
+        figures: Figures {
+            width: 1,
+            resolution: 400,
+            columns: 4_096,
+        },
+        pieces: vec![bar(16_000); 5],
+    };
+    let used = both.granted(&job, &job.sheet(), enough(&job, 4_096)).used;
+    assert_eq!(used, 80_000);
+    job.pieces = vec![bar(16_000); 103];
+    job.pieces.push(bar(6_400));
+    let totals = both.granted(&job, &job.sheet(), enough(&job, 4_096));
+    let (placed, used) = (103, 1_638_400);
+    assert_eq!(totals, Totals { placed, used });
 }
 
 /// Pieces each of which may be a copy of the one before, or differ from it in its
@@ -826,20 +912,21 @@ fn three_squares() {
     let job = squares_job(3);
     let third_refused = [0, 0, 0, 0, 0, 0, 0, 4, 14, 0, 0, 0];
     let all_placed = [0, 0, 0, 0, 0, 0, 0, 4, 0, 0, 2, 0];
-    for (q, laid, placed, used) in [(3, third_refused, 2, 2), (4, all_placed, 3, 4)] {
+    for (q, laid, placed, used) in [(3, third_refused, 2, 4), (4, all_placed, 3, 8)] {
         let totals = both.granted(&job, &job.sheet(), enough(&job, q));
         assert_eq!(totals, Totals { placed, used });
         assert_eq!(*both.output.held(12), laid);
     }
 }
 
-/// With a gap of 1 they lie a row and a column apart; used columns are the outline's.
+/// With a gap of 1 they lie a row and a column apart; the used length is the outline's.
 #[test]
 fn three_squares_with_a_gap() {
     let mut both = Both::new();
     let job = squares_job(3);
     let totals = both.granted(&job, &job.sheet(), enough_with_gap(&job, 1, 40));
-    assert_eq!(totals, Totals { placed: 3, used: 5 });
+    let used = 10;
+    assert_eq!(totals, Totals { placed: 3, used });
     let laid = [0, 0, 0, 0, 0, 0, 0, 5, 0, 0, 3, 0];
     assert_eq!(*both.output.held(12), laid);
 }
@@ -859,7 +946,7 @@ fn trial_jobs() {
         job.pieces[1].outline[place] = 16_001;
         assert_eq!(both.lay(&job.sheet(), words), Err(no(8, 2)));
     }
-    for (vertices, answer) in [(64, Ok(Totals { placed: 2, used: 2 })), (65, Err(no(7, 1)))] {
+    for (vertices, answer) in [(64, Ok(Totals { placed: 2, used: 4 })), (65, Err(no(7, 1)))] {
         let mut job = squares_job(2);
         let first = job.pieces[0].outline[..2].repeat(vertices - 4);
         job.pieces[0].outline.splice(0..0, first);
@@ -871,7 +958,7 @@ fn trial_jobs() {
             200,
             Ok(Totals {
                 placed: 10,
-                used: 10,
+                used: 20,
             }),
         ),
         (201, Err(no(6, 0))),

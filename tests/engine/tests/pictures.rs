@@ -6,8 +6,8 @@ use engine::programs::DRAW;
 use reference::figures::{Figures, Piece};
 use reference::generate::outlines::is_sound;
 use reference::generate::{
-    any_figures, damaged_sheet, job, sound_pieces, sound_sheet, stroke_pieces, Job, Random,
-    SheetDamage, SheetPlan,
+    any_figures, damaged_sheet, job, long_job, sound_pieces, sound_sheet, stroke_pieces, tied_job,
+    Job, Random, SheetDamage, SheetPlan,
 };
 use reference::picture::draw;
 use reference::text::gap_and_sheet;
@@ -118,6 +118,32 @@ fn small_jobs() {
     assert!(pictures.with("<polygon") > 250 && pictures.with(" refused 13<") > 100);
     println!("{} of 500 with dashes", pictures.with(DASHES));
     assert!(pictures.with(DASHES) > 150);
+}
+
+/// The used part ends within a column as often as not; of long strips it is over 16 bits.
+#[test]
+fn used_lengths() {
+    let mut pictures = Pictures::default();
+    let mut random = Random::new(310);
+    for _ in 0..300 {
+        pictures.draw(&tied_job(&mut random).sheet());
+    }
+    for _ in 0..30 {
+        pictures.draw(&long_job(&mut random).sheet());
+    }
+    let used: Vec<f64> = pictures.pictures.iter().map(|p| used_units(p)).collect();
+    for eighths in 0..8 {
+        let some = used.iter().filter(|&used| used % 8.0 == f64::from(eighths));
+        assert!(some.count() > 10, "{eighths}");
+    }
+    assert!(used.iter().filter(|&&used| used > 65_535.0).count() > 5);
+}
+
+/// The used length below the strip, in units.
+fn used_units(picture: &str) -> f64 {
+    let after = picture.split_once(">used ").expect("a used length").1;
+    let millimetres = after.split_once(" mm").expect("millimetres").0;
+    8.0 * millimetres.parse::<f64>().expect("a number")
 }
 
 /// Gaps of every size in front of the sheet, small and large ones alike.

@@ -1,16 +1,19 @@
 //! Place against the reference program: answer, tries, every word of the strip, the
 //! work buffer and the outline, with each buffer directly before a page that cannot be
-//! read. The reference program checks S-5's bound on each count of tries. The order of the records is the engine's choice, and it is compared too:
-//! 1, 2, 3 by column then low, the free ones after them, rising.
+//! read. The reference program checks S-5's bound on each count of tries. The order of the
+//! records is the engine's choice, and it is compared too: 1, 2, 3 by column then low, the
+//! free ones after them, rising.
 
 use engine::data;
 use engine::guard::Room;
 use engine::plain_place::Board;
 use reference::generate::outlines::zigzag_of;
 use reference::generate::{
-    any_mask, change_words, damaged_strip, outline, random_runs, small_gap, sound_mask,
-    sound_outline, sound_strip, strip_with, Damage, OutlineKind, Random, StripFigures,
+    any_mask, change_words, damaged_strip, long_job, outline, random_runs, small_gap, sound_mask,
+    sound_outline, sound_strip, strip_with, tied_job, Damage, Job, OutlineKind, Random,
+    StripFigures,
 };
+use reference::placing::Steps;
 use reference::{runs, strip_runs, Position, Refusal, Tried};
 
 /// The engine beside the reference program, on one call after another.
@@ -255,6 +258,110 @@ fn lists_on_small_strips() {
     both.came(2_000, &[0, 7, 8, 9, 10, 11, 12, 13, 14]);
     assert_eq!(both.numbers[5], 0, "no call of a list answers 5");
     assert!(both.turns.iter().all(|&times| times > 1_000));
+}
+
+/// The pieces of a job as a list of calls, each with work words enough.
+fn list_of(job: &Job, g: u16, q: usize) -> List {
+    let figures = StripFigures {
+        w: job.figures.width,
+        r: job.figures.resolution,
+        n: job.figures.columns,
+        g,
+        q,
+    };
+    let pieces: Vec<Piece> = job
+        .pieces
+        .iter()
+        .map(|piece| Piece::new(piece.outline.clone(), figures.r, g))
+        .collect();
+    let calls = job.pieces.iter().zip(&pieces).enumerate();
+    let calls = calls.map(|(piece, (of, with_runs))| Call {
+        piece,
+        mask: of.mask,
+        work: with_runs.words(of.mask),
+    });
+    List {
+        figures,
+        calls: calls.collect(),
+        pieces,
+    }
+}
+
+/// How often each step of S-7's order is needed in a list.
+fn count_steps(steps: &mut Steps, list: &List) {
+    let mut strip = opened(list.figures);
+    for call in &list.calls {
+        let outline = &list.pieces[call.piece].outline;
+        steps.count(&strip, outline, call.mask);
+        engine::place(&mut strip, outline, call.mask, &mut vec![0; call.work]);
+    }
+}
+
+/// Lists of pieces whose turns end in one column or at one right edge.
+#[test]
+fn lists_with_ties() {
+    let mut both = Both::new();
+    let mut random = Random::new(51);
+    let mut steps = Steps::default();
+    for round in 0..6_000 {
+        let job = tied_job(&mut random);
+        let g = match round % 2 {
+            0 => small_gap(&mut random, job.figures.resolution),
+            _ => 0,
+        };
+        let q = random.between(1, 80) as usize;
+        let list = list_of(&job, g, q);
+        lay(&mut both, &list, q);
+        count_steps(&mut steps, &list);
+    }
+    println!("{steps:?}");
+    assert!(steps.edge > 6_000 && steps.top > 600 && steps.turn > 6_000);
+    both.came(800, &[0, 13, 14]);
+    assert!(both.turns.iter().all(|&times| times > 1_000));
+}
+
+/// Long strips: right edges over 16 bits are compared.
+#[test]
+fn lists_on_long_strips() {
+    let mut both = Both::new();
+    let mut random = Random::new(52);
+    for _ in 0..80 {
+        let job = long_job(&mut random);
+        let g = random.pick(&[0, 0, 0, 1, 2, 40]);
+        let q = random.pick(&[60, 400, 4_000]);
+        lay(&mut both, &list_of(&job, g, q), q);
+    }
+    both.came(30, &[0, 14]);
+}
+
+/// 300 by 400 on a strip whose first columns of 400 units are taken: in column 163 it ends
+/// at 65,500, or a quarter turned at 65,600, which is 64 in 16 bits.
+#[test]
+fn a_right_edge_over_65_535() {
+    let mut both = Both::new();
+    let mut random = Random::new(53);
+    let outline = [0, 0, 300, 0, 300, 400, 0, 400];
+    let figures = StripFigures {
+        w: 1_000,
+        r: 400,
+        n: 4_096,
+        g: 0,
+        q: 4_096,
+    };
+    for taken in [162, 163, 164, 4_095] {
+        let mut columns = vec![vec![(0, 1_000)]; taken];
+        columns.resize(4_096, Vec::new());
+        let strip = strip_with(&mut random, figures, &columns);
+        for (mask, turn) in [(3, 0), (6, 2), (9, 0), (10, 1), (12, 2), (15, 0)] {
+            let expected = Position {
+                turn,
+                column: taken as u16,
+                height: 0,
+            };
+            let answer = both.place(&mut strip.clone(), &outline, mask, 3);
+            assert_eq!(answer, Ok(expected), "mask {mask}");
+        }
+    }
 }
 
 /// Single calls on well-formed strips whose records are in any order, with runs

@@ -6,7 +6,8 @@ use engine::programs::LAY;
 use reference::figures::{Figures, Piece};
 use reference::generate::outlines::is_sound;
 use reference::generate::{
-    any_figures, damaged_sheet, job, sound_pieces, sound_sheet, Job, Random, SheetDamage, SheetPlan,
+    any_figures, damaged_sheet, job, long_job, sound_pieces, sound_sheet, tied_job, Job, Random,
+    SheetDamage, SheetPlan,
 };
 
 /// What the program has printed, run by run.
@@ -56,7 +57,7 @@ fn the_printed_example() {
     let mut runs = Runs::default();
     let text = runs.run(&sheet([10, 2, 10], &[(&SQUARE[..], 1); 3]));
     let example =
-        "strip 10 2 10\n1 placed 0 0 0\n2 placed 0 0 4\n3 placed 0 2 0\nused 4 placed 3\n";
+        "strip 10 2 10\n1 placed 0 0 0\n2 placed 0 0 4\n3 placed 0 2 0\nused 8 placed 3\n";
     assert_eq!(text, example);
     // An empty job prints its strip line, then the totals.
     let text = runs.run(&sheet([10, 2, 10], &[]));
@@ -74,6 +75,39 @@ fn sound_jobs() {
     assert_eq!(runs.texts.len(), 1_000);
     assert_eq!(runs.with("job refused"), 0);
     assert!(runs.with("placed 0 ") > 500 && runs.with("refused 13") > 200);
+}
+
+/// Turns that end in one column or at one right edge; and strips so long that the used
+/// length is over 16 bits, up to N × R.
+#[test]
+fn right_edges() {
+    let mut runs = Runs::default();
+    let mut random = Random::new(104);
+    for _ in 0..300 {
+        runs.run(&tied_job(&mut random).sheet());
+    }
+    for _ in 0..40 {
+        runs.run(&long_job(&mut random).sheet());
+    }
+    assert_eq!(runs.with("job refused"), 0);
+    let over = |text: &&String| used(text) > 65_535;
+    assert!(runs.texts.iter().filter(over).count() > 10);
+    let bar = |long: u16| [0, 0, long, 0, long, 1, 0, 1];
+    let (long, rest) = (bar(16_000), bar(14_400));
+    let text = runs.run(&sheet([1, 400, 4_096], &[(&long[..], 1); 5]));
+    assert!(text.ends_with("\n5 placed 0 160 0\nused 80000 placed 5\n"));
+    // As far as 4,000 records go.
+    let mut pieces = vec![(&long[..], 1); 99];
+    pieces.push((&rest, 1));
+    let text = runs.run(&sheet([1, 400, 3_996], &pieces));
+    assert!(text.ends_with("\n100 placed 0 3960 0\nused 1598400 placed 100\n"));
+}
+
+/// The used length that a text says.
+fn used(text: &str) -> u32 {
+    let last = text.lines().last().expect("a line");
+    let word = last.split(' ').nth(1).expect("used, and a number");
+    word.parse().expect("a number")
 }
 
 #[test]
@@ -207,7 +241,7 @@ fn the_most_pieces() {
     let mut pieces = [(&SQUARE[..], 15); 200];
     pieces[0] = (&tall, 1);
     let text = runs.run(&sheet([16_000, 400, 4_096], &pieces));
-    assert!(text.ends_with("\n200 placed 0 0 10792\nused 1 placed 200\n"));
+    assert!(text.ends_with("\n200 placed 0 0 10792\nused 400 placed 200\n"));
 }
 
 /// Public outlines, as many as a sheet takes, coarse and fine.

@@ -1,6 +1,7 @@
 //! Program `tries` as it is run, on the sample jobs: each number of its table beside
 //! what the reference program finds, and what it says of columns that it leaves out.
 
+use reference::laying::laid_job;
 use reference::outline::{turned, vertices};
 use reference::sheet::{ask_head, pieces_of_sheet};
 use reference::text::{gap_and_sheet, sheet_of_text};
@@ -124,6 +125,10 @@ fn check(name: &str, resolutions: &[u16]) -> String {
         assert_eq!(cell("tries in all"), expected.tries.to_string());
         assert_eq!(cell("pieces placed"), expected.placed.to_string());
         assert_eq!(units(cell("used length")), expected.used as f64);
+        if resolution == own.resolution {
+            let totals = laid_job(sheet, gap).expect("a sheet").totals;
+            assert_eq!(i64::from(totals.used), expected.used, "lay's own answer");
+        }
     }
     let lines = printed.lines();
     let count = lines.filter(|line| line.starts_with("piece ")).count();

@@ -9,11 +9,13 @@
 use reference::generate::paths::{any_vertices, sound_path_of};
 use reference::generate::{
     any_gap, any_mask, any_path, any_turn, change_words, commit_position, damaged_list,
-    damaged_sheet, damaged_strip, job, outline, random_runs, small_figures, sound_list,
-    sound_outline, sound_pieces, sound_sheet, sound_strip, strip_with, stroke_outline, CommitKind,
-    Damage, Job, ListDamage, OutlineKind, Random, SheetDamage, StripFigures, StrokeKind,
+    damaged_sheet, damaged_strip, job, long_job, outline, random_runs, small_figures, sound_list,
+    sound_outline, sound_pieces, sound_sheet, sound_strip, strip_with, stroke_outline, tied_job,
+    CommitKind, Damage, Job, ListDamage, OutlineKind, Random, SheetDamage, StripFigures,
+    StrokeKind,
 };
-use reference::placing::{board_of, most_tries, next_height_plain, turned_piece, walk};
+use reference::laying::laid_job;
+use reference::placing::{board_of, most_tries, next_height_plain, turned_piece, walk, Steps};
 use reference::questions::turns_of_mask;
 use reference::sheet::list_words;
 use reference::strip::LEADING;
@@ -38,6 +40,7 @@ use Rattle.defs.specs.declared.Committing.the-variants.{Committed, Refused as N
 use Rattle.defs.specs.declared.Reading.the-variants.{Read, Refused as NotRead}
 use Rattle.defs.specs.declared.Writing.the-variants.{Written, Refused as NotWritten}
 use Rattle.defs.specs.declared.Laying.the-variants.{Laid, Refused as NotLaid}
+use Rattle.defs.specs.declared.Fate.the-variants.{Placed as FatePlaced, Refused as FateRefused}
 use Rattle.defs.specs.declared.Retracing.the-variants.{Nowhere, Twice, Refused as NotTraced}
 use Rattle.defs.specs.Computing.Test.{listFrom}
 use Rattle.defs.specs.Computing.Cells.{Rows}
@@ -46,9 +49,9 @@ use Rattle.defs.specs.Computing.Search.{position}
 use Rattle.defs.specs.Computing.Walk.{turnWalk, triesBound}
 use Rattle.defs.specs.Computing.Calls.{refusal, openAnswer, coverAnswer, coverOutput, placeAnswer, placedStrip, askAnswer, placeTries, commitAnswer, listAnswers, listTries, Lent}
 use Rattle.defs.specs.Computing.Sheets.{readAnswer, readOutput, writeAnswer, writeOutput}
-use Rattle.defs.specs.Computing.Lay.{layAnswer, layOutput}
+use Rattle.defs.specs.Computing.Lay.{usedIn, layAnswer, layOutput}
 use Rattle.defs.specs.Computing.Ascii.{ascii}
-use Rattle.defs.specs.Computing.Text.{layText}
+use Rattle.defs.specs.Computing.Text.{totalsLine, layText}
 use Rattle.defs.specs.Computing.Runs.{runs}
 use Rattle.pathdefs.specs.declared.PathReading.the-variants.{Words, Refused as NotPath}
 use Rattle.pathdefs.specs.Computing.PathRuns.{pathRuns}
@@ -228,12 +231,18 @@ fn limits_row(random: &mut Random, table: &mut Table, wrong: usize) {
     table.row(&format!("layText {bytes}"), &format!("ascii {text:?}"));
 }
 
+/// A strip just opened.
+fn opened(w: u16, r: u16, n: u16, g: u16, q: u16) -> Vec<u16> {
+    let mut strip = vec![0u16; LEADING + usize::from(n) + 4 * usize::from(q)];
+    open(w, r, n, g, &mut strip).expect("figures in their limits");
+    strip
+}
+
 /// A list of place calls from an opened strip.
 fn list_row(random: &mut Random, table: &mut Table) {
     let (w, r, n) = (random.word(1, 9), random.word(1, 3), random.word(1, 6));
     let (g, q) = (random.word(0, 4), random.word(1, 10));
-    let mut strip = vec![0u16; LEADING + usize::from(n) + 4 * usize::from(q)];
-    open(w, r, n, g, &mut strip).expect("figures in their limits");
+    let mut strip = opened(w, r, n, g, q);
     let (mut calls, mut answers, mut tries) = (Vec::new(), Vec::new(), Vec::new());
     for _ in 0..random.between(1, 4) {
         let (outline, mask) = (small_outline(random), any_mask(random));
@@ -506,6 +515,65 @@ fn lay_row(random: &mut Random, table: &mut Table) {
             break job;
         }
     };
+    lay_rows_of(random, table, &job);
+}
+
+/// A job of few small pieces, of which one goes elsewhere by its right edge than by its
+/// last column, or has the lower top of two that end at one right edge.
+fn tied_rows(random: &mut Random, table: &mut Table, by_top: bool) {
+    let job = loop {
+        let job = tied_job(random);
+        let of = job.figures;
+        let most = job.pieces.iter().flat_map(|p| &p.outline).max();
+        if job.pieces.len() > 4 || most.is_some_and(|&x| x > 6) || of.width > 10 || of.columns > 8 {
+            continue;
+        }
+        let mut strip = opened(of.width, of.resolution, of.columns, 0, 40);
+        let mut steps = Steps::default();
+        for piece in &job.pieces {
+            steps.count(&strip, &piece.outline, piece.mask);
+            place(&mut strip, &piece.outline, piece.mask, &mut [0; 90]);
+        }
+        if (if by_top { steps.top } else { steps.edge }) > 0 {
+            break job;
+        }
+    };
+    lay_rows_of(random, table, &job);
+}
+
+/// The used length of a long strip and the line that says it, by the entries alone: its
+/// cells are too many to be worked out here.
+fn long_rows(random: &mut Random, table: &mut Table) {
+    let (job, laid) = loop {
+        let job = long_job(random);
+        let laid = laid_job(&job.sheet(), 0).expect("a sound job");
+        if laid.totals.used > 65_535 {
+            break (job, laid);
+        }
+    };
+    let pieces = list(job.pieces.iter().map(|piece| {
+        let outline = numbers(&piece.outline);
+        format!("record {{ mask = {}; outline = {outline} }}", piece.mask)
+    }));
+    let entries = list((1..).zip(&laid.fates).map(|(ordinal, fate)| {
+        let fate = match fate {
+            Ok(at) => format!("FatePlaced {}", position(*at)),
+            Err(number) => format!("FateRefused {number}"),
+        };
+        format!("record {{ ordinal = {ordinal}; fate = {fate} }}")
+    }));
+    let (placed, used) = (laid.totals.placed, laid.totals.used);
+    let r = job.figures.resolution;
+    table.row(&format!("usedIn {r} {pieces} {entries}"), &used.to_string());
+    let text = lay_text(&job.sheet());
+    let last = format!("{}\n", text.lines().last().expect("a line"));
+    table.row(
+        &format!("totalsLine (record {{ placed = {placed}; used = {used} }})"),
+        &format!("ascii {last:?}"),
+    );
+}
+
+fn lay_rows_of(random: &mut Random, table: &mut Table, job: &Job) {
     let sheet = job.sheet();
     let records = random.index(14) + 1;
     let mut strip = vec![3u16; LEADING + usize::from(job.figures.columns) + 4 * records];
@@ -652,6 +720,8 @@ fn main() {
         read_row(&mut random, &mut table);
         write_row(&mut random, &mut table);
         lay_row(&mut random, &mut table);
+        tied_rows(&mut random, &mut table, round % 2 == 1);
+        long_rows(&mut random, &mut table);
         retrace_row(&mut random, &mut table);
         retrace_row(&mut random, &mut table);
         read_path_row(&mut random, &mut table);

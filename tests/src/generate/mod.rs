@@ -3,6 +3,7 @@
 //! "Sound" is said of what passes its questions, "damaged" of what does not.
 
 pub mod calls;
+pub mod edges;
 pub mod jobs;
 pub mod lists;
 pub mod outlines;
@@ -14,6 +15,7 @@ pub mod strokes;
 pub mod texts;
 
 pub use calls::{commit_position, place_calls, Call, CommitCall, CommitKind, MixedList, PlaceCall};
+pub use edges::{long_job, tied_job};
 pub use jobs::{job, sound_piece_of, sound_pieces, sound_pieces_of, Job};
 pub use lists::{damaged_list, damaged_list_at, sound_list, DamagedList, ListDamage};
 pub use outlines::{any_outline, any_size, outline, sound_outline, OutlineKind};

@@ -66,7 +66,7 @@ pub fn count_runs(cells: &Cells) -> usize {
 
 /// What a place call answers whose outline passes 7 to 11: the position, or 12,
 /// 13 or 14. All positions of all allowed turns are tried, and the least
-/// (last column, top, turn) of the free ones is taken.
+/// (right edge, top, turn) of the free ones is taken.
 pub fn expected(
     occupied: &Cells,
     figures: StripFigures,
@@ -86,7 +86,7 @@ pub fn expected(
         for c in 0..=n - wide {
             for y in 0..=w - ph {
                 let cells = on_strip(moved(&cells, c, y), figures);
-                let key = (c + wide - 1, y + ph, turn);
+                let key = (c * r + pw, y + ph, turn);
                 let better = found.as_ref().is_none_or(|least| key < least.0);
                 if better && cells.is_disjoint(occupied) {
                     found = Some((key, at(turn, c as u16, y as u16), cells));

@@ -6,6 +6,7 @@ use Prim.Native.String.{String}
 use lib.Dec.{ltb}
 use Rattle.defs.specs.declared.Fate.the-variants.{Placed, Refused}
 use Rattle.defs.specs.declared.Entry.{Entry}
+use Rattle.defs.specs.declared.Totals.{Totals}
 use Rattle.defs.specs.declared.Laying.the-variants.{Laid, Refused as NotLaid}
 use Rattle.defs.specs.Meaning.Limits.{leadingWords, recordWords, mostPieces}
 use Rattle.defs.specs.Meaning.Sheet.{sheetW, sheetR, sheetN}
@@ -20,9 +21,13 @@ digits (suc k) n ds =
     let more = digits k (n / 10) here in
     cond (ltb n 10) here more
 
--- a number below 65,536
+-- a number of 16 bits
 unfoldable pub decimal : ℕ → List ℕ
 decimal n = digits 5 n []
+
+-- a number of 32 bits
+unfoldable pub longDecimal : ℕ → List ℕ
+longDecimal n = digits 10 n []
 
 -- each number after a space
 unfoldable pub spaced : List ℕ → List ℕ
@@ -57,13 +62,16 @@ programWork = 9000
 abbrev pub programStrip : List ℕ → ℕ
 programStrip b = leadingWords + sheetN b + recordWords * programRecords
 
+-- The last line. S-7: "Used length, of 32 bits, … replaces used columns in the answer and the last line"
+unfoldable pub totalsLine : Totals → List ℕ
+totalsLine t = ascii "used" ++ (32 ∷ (longDecimal (t .used) ++ line " placed" (t .placed ∷ [])))
+
 -- What is printed for this standard input. "a refused job only `job refused 10 2` (number, ordinal or 0)"
 unfoldable pub layText : List ℕ → List ℕ
 layText b =
     elim (layAnswer b 0 (programStrip b) (4 * mostPieces) programWork) [
       | Laid t ↦
           line "strip" (sheetW b ∷ sheetR b ∷ sheetN b ∷ []) ++
-          (entryLines (layEntries b 0 (programStrip b) programWork) ++
-          (ascii "used" ++ (spaced (t .used ∷ []) ++ line " placed" (t .placed ∷ []))))
+          (entryLines (layEntries b 0 (programStrip b) programWork) ++ totalsLine t)
       | NotLaid r ↦ line "job refused" (r .number ∷ r .ordinal ∷ [])
     ]

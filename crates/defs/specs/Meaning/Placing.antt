@@ -48,15 +48,19 @@ endColumn R o p = p .column + columnsFor (extentX o (p .turn)) R
 unfoldable pub top : List ℕ → Position → ℕ
 top o p = p .height + extentY o (p .turn)
 
--- "the least last column wins, then least top, then least turn": q comes later than p. Within one turn, where w and h are
--- fixed, that is the order of (c, y).
+-- S-7: "The right edge of a position is column × R + w."
+unfoldable pub rightEdge : ℕ → List ℕ → Position → ℕ
+rightEdge R o p = p .column * R + extentX o (p .turn)
+
+-- S-7: "Among turns the least right edge wins, then least top, then least turn": q comes later than p, a rival position. Within one
+-- turn, where w and h are fixed, that is the order of (c, y).
 unfoldable pub Later : ℕ → List ℕ → Position → Position → Type 0
 Later R o p q =
-    (endColumn R o p < endColumn R o q) ⊎
-    ((endColumn R o p ≡ endColumn R o q) × (top o p < top o q)) ⊎
-    ((endColumn R o p ≡ endColumn R o q) × (top o p ≡ top o q) × (p .turn < q .turn))
+    (rightEdge R o p < rightEdge R o q) ⊎
+    ((rightEdge R o p ≡ rightEdge R o q) × (top o p < top o q)) ⊎
+    ((rightEdge R o p ≡ rightEdge R o q) × (top o p ≡ top o q) × (p .turn < q .turn))
 
--- "Each turn takes its least free (c, y); among turns the least last column wins, then least top, then least turn": every
+-- "Each turn takes its least free (c, y)"; "Among turns the least right edge wins, then least top, then least turn": every
 -- other position that fits comes later.
 pub record Best (W R N g : ℕ) (Occupied : Cells) (o : List ℕ) (mask : ℕ) (p : Position) : Type 0 where
   pub fits : Fits W R N g Occupied o mask p

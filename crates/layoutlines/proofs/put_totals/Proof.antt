@@ -1,11 +1,11 @@
 -- The parts of the last line, one after another. Assumes nothing.
-use mathlib.Core.List.{[], _∷_}
 use native.Mathlib.Omega.{arith}
+use lib.ListN.{length-set}
 use borrow.Author.Needs.{needs}
 use Rattle.defs.specs.Computing.Ascii.{ascii}
 use Rattle.defs.specs.Computing.Text.{line}
-use Rattle.layoutlines.specs.Line.{totalsLine}
-use Rattle.print.proofs.Puts.{then, spaced-few}
+use Rattle.print.proofs.Puts.{put-long, long-few}
+use Rattle.layoutlines.proofs.Line.{totals-put}
 use Rattle.layoutlines.proofs.put_totals.Statement.{statement}
 use Rattle.layoutlines.proofs.put_totals.Tie as tie
 
@@ -15,11 +15,14 @@ slice-aggregate-put c = search needs
 put-requires : tie.Need-put-requires
 put-requires c κs = search needs
 
-slice-aggregate-put-spaced : tie.Need-slice-aggregate-put-spaced
-slice-aggregate-put-spaced c = search needs
+slice-write-out : tie.Need-slice-write-out
+slice-write-out c = search needs
 
-put-spaced-requires : tie.Need-put-spaced-requires
-put-spaced-requires c κs = search needs
+add-put-long : tie.Need-add-put-long
+add-put-long c = search needs
+
+put-long-requires : tie.Need-put-long-requires
+put-long-requires c κs = simp length-set (search needs)
 
 slice-aggregate-put-line : tie.Need-slice-aggregate-put-line
 slice-aggregate-put-line c = search needs
@@ -28,14 +31,15 @@ slice-aggregate-put-line-2 : tie.Need-slice-aggregate-put-line-2
 slice-aggregate-put-line-2 c = search needs
 
 put-line-requires : tie.Need-put-line-requires
-put-line-requires c κs = omega (arith, c .before .before .before .before .before .put-spaced .ensures .after, spaced-few (c .before .before .before .before .before .before .before .before .before .before .before .before .before .before .args .t .used ∷ []))
+put-line-requires c κs = omega (arith, c .before .before .before .before .before .before .before .before .before .put .ensures .after, c .before .before .before .before .before .put-long .ensures .after, long-few (c .before .before .before .before .before .before .before .before .before .before .before .before .before .args .t .used), put-long (c .before .before .before .before .before .before .before .before .before .put .ensures), simp length-set at (put-long (c .before .before .before .before .before .put-long .ensures)))
 
 same-length : tie.Need-same-length
-same-length c = search needs
+unfolding ascii line
+same-length c = put-long (totals-put (c .before .before .before .before .before .before .before .before .before .before .before .before .before .before .before .before .args .t) (c .before .before .before .before .before .before .before .before .before .before .before .before .put .ensures) (c .before .before .before .before .before .before .before .before .put-long .ensures) (c .before .before .put-line .ensures))
 
 returns : tie.Need-returns
-unfolding totalsLine ascii line
-returns c = then (c .before .before .before .before .before .before .before .before .before .before .before .before .before .put .ensures) (then (c .before .before .before .before .before .before .before .before .put-spaced .ensures) (c .before .before .put-line .ensures))
+unfolding ascii line
+returns c = totals-put (c .before .before .before .before .before .before .before .before .before .before .before .before .before .before .before .before .args .t) (c .before .before .before .before .before .before .before .before .before .before .before .before .put .ensures) (c .before .before .before .before .before .before .before .before .put-long .ensures) (c .before .before .put-line .ensures)
 
 pub put-totals-spec : {M : Type 1} → statement M
 put-totals-spec =
@@ -43,8 +47,9 @@ put-totals-spec =
     (tie.spec
     slice-aggregate-put
     put-requires
-    slice-aggregate-put-spaced
-    put-spaced-requires
+    slice-write-out
+    add-put-long
+    put-long-requires
     slice-aggregate-put-line
     slice-aggregate-put-line-2
     put-line-requires

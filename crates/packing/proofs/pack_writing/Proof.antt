@@ -1,6 +1,6 @@
 -- Each case of the answer is packed by its own numbers. Assumes nothing.
 use borrow.Author.Needs.{needs}
-use Rattle.packing.proofs.Bits.{refused-wide}
+use Rattle.packing.proofs.Bits.{one-wide, refused-wide}
 use Rattle.packing.proofs.pack_writing.Statement.{statement}
 use Rattle.packing.proofs.pack_writing.Tie as tie
 
@@ -17,7 +17,7 @@ pack-refusal-requires : tie.Need-pack-refusal-requires
 pack-refusal-requires c κs = search needs
 
 returns : tie.Need-returns
-returns c = rw (c .before .before .a .given .1) (c .pack-wide .ensures)
+returns c = rw (c .before .before .a .given .1) (one-wide (c .pack-wide .ensures))
 
 returns-2 : tie.Need-returns-2
 returns-2 c = rw (c .before .before .a2 .given .1) (refused-wide (c .pack-refusal .ensures))

@@ -1,7 +1,6 @@
 -- The answer, its entry and its tally. Assumes nothing.
-use native.Mathlib.Omega.{arith}
 use Rattle.checks.proofs.Bounded.{has-vertex, lent-of}
-use Rattle.piece.proofs.Currents.{end-fits, place-ends, piece-laid}
+use Rattle.piece.proofs.Currents.{piece-laid}
 use borrow.Author.Needs.{needs}
 use Rattle.piece.proofs.lay_outline.Statement.{statement}
 use Rattle.piece.proofs.lay_outline.Tie as tie
@@ -12,28 +11,17 @@ bounds-of-requires c κs = has-vertex _ (c .before .before .before .before .befo
 place-current-requires : tie.Need-place-current-requires
 place-current-requires c κs = let pre = c .before .before .before .before .before .before .before .before .before .before .before .before .before .before .before .before .before .pre in (pre .0, (pre .1 .0, (c .before .before .before .before .before .before .before .bounds-of .ensures, pre .1 .1 .1 .1)))
 
-end-of-requires : tie.Need-end-of-requires
-end-of-requires c κs =
-    let pre = c .before .before .before .before .before .before .before .before .before .before .before .before .before .before .before .before .before .before .before .before .before .before .before .before .before .before .before .before .before .before .before .before .pre in
-    let y = pre .1 .0 in (
-      lent-of _ (y .seven) (y .eight),
-      (
-        c .before .before .before .before .before .before .before .before .before .before .before .before .before .before .before .before .before .before .before .before .before .before .bounds-of .ensures,
-        (pre .0 .limits .resolution .at-least, place-ends (pre .0 .limits) (c .before .before .before .before .before .before .before .before .before .before .before .before .before .before .place-current .ensures .fits)),
-      ),
-    )
+right-of-requires : tie.Need-right-of-requires
+right-of-requires c κs = let y = c .before .before .before .before .before .before .before .before .before .before .before .before .before .before .before .before .before .before .before .before .before .before .before .before .before .before .before .before .before .before .before .before .pre .1 .0 in (lent-of _ (y .seven) (y .eight), (c .before .before .before .before .before .before .before .before .before .before .before .before .before .before .before .before .before .before .before .before .before .before .bounds-of .ensures, c .before .before .before .before .before .before .before .before .before .before .before .before .before .before .place-current .ensures .fits .turn))
 
 fate-of-requires : tie.Need-fate-of-requires
 fate-of-requires c κs = search needs
 
 put-entry-requires : tie.Need-put-entry-requires
-put-entry-requires c κs = (c .before .before .before .before .before .before .before .before .before .before .before .before .before .before .before .before .before .before .before .before .before .before .before .before .before .before .before .before .before .before .before .before .before .before .before .pre .1 .1 .0 .first, c .before .before .before .before .before .before .before .before .before .before .before .before .before .before .before .before .before .before .before .before .before .before .before .before .before .before .before .before .before .before .before .before .before .before .before .pre .1 .1 .1 .0)
-
-cast-counted : tie.Need-cast-counted
-cast-counted c = omega (arith, c .before .before .before .before .before .end-of .ensures, end-fits _ (c .before .before .before .before .before .before .before .before .before .before .before .before .before .before .before .before .before .before .before .before .place-current .ensures .fits), c .before .before .before .before .before .before .before .before .before .before .before .before .before .before .before .before .before .before .before .before .before .before .before .before .before .before .before .before .before .before .before .before .before .before .before .before .before .before .pre .0 .limits .columns .at-most)
+put-entry-requires c κs = let pre = c .before .before .before .before .before .before .before .before .before .before .before .before .before .before .before .before .before .before .before .before .before .before .before .before .before .before .before .before .before .before .before .before .before .before .before .pre in (pre .1 .1 .0 .first, pre .1 .1 .1 .0)
 
 counted-requires : tie.Need-counted-requires
-counted-requires c κs = (c .before .before .before .before .before .before .before .before .before .before .before .before .before .before .before .before .before .before .before .before .before .before .before .before .before .before .before .before .before .before .before .before .before .before .before .before .before .before .pre .1 .1 .0, c .before .before .before .before .before .before .before .before .before .before .before .before .before .before .before .before .before .before .before .before .before .before .before .before .before .before .before .before .before .before .before .before .before .before .before .before .before .before .pre .0 .limits .columns .at-most)
+counted-requires c κs = c .before .before .before .before .before .before .before .before .before .before .before .before .before .before .before .before .before .before .before .before .before .before .before .before .before .before .before .before .before .before .before .before .before .before .before .before .before .before .pre .1 .1 .0
 
 same-length : tie.Need-same-length
 same-length c = search needs
@@ -60,7 +48,7 @@ same-length-8 : tie.Need-same-length-8
 same-length-8 c = search needs
 
 returns : tie.Need-returns
-returns c = piece-laid (c .before .before .before .before .before .before .before .before .before .before .before .before .before .before .before .before .before .before .before .before .before .place-current .ensures) (c .before .before .before .before .before .fate-of .ensures) (c .before .before .before .put-entry .ensures) (c .before .before .before .before .before .before .end-of .ensures) (c .counted .ensures)
+returns c = piece-laid (c .before .before .before .before .before .before .before .before .before .before .before .before .before .before .before .before .before .before .before .before .before .place-current .ensures) (c .before .before .before .before .before .fate-of .ensures) (c .before .before .before .put-entry .ensures) (c .before .before .before .before .before .before .right-of .ensures) (c .counted .ensures)
 
 pub lay-outline-spec : {M : Type 1} → statement M
 lay-outline-spec =
@@ -68,10 +56,9 @@ lay-outline-spec =
     (tie.spec
     bounds-of-requires
     place-current-requires
-    end-of-requires
+    right-of-requires
     fate-of-requires
     put-entry-requires
-    cast-counted
     counted-requires
     same-length
     same-length-2

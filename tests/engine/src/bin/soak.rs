@@ -10,8 +10,8 @@ use engine::guard::{End, Room, Unit};
 use reference::figures::NUMBERS;
 use reference::generate::{
     any_figures, any_gap, any_outline, any_path, change_words, damaged_sheet, damaged_strip, job,
-    small_figures, small_gap, sound_sheet, sound_strip, Call, CommitCall, Damage, MixedList,
-    PlaceCall, Random, SheetDamage,
+    long_job, small_figures, small_gap, sound_sheet, sound_strip, tied_job, Call, CommitCall,
+    Damage, MixedList, PlaceCall, Random, SheetDamage,
 };
 use reference::strip::LEADING;
 use reference::{bytes, Figures, Position, Refusal, Totals, Tried};
@@ -230,6 +230,8 @@ struct Soak {
     paths: [Kind; 2],
     /// Pieces of laid jobs, by fate; 0 is placed.
     fates: [u64; 16],
+    /// Laid jobs whose used length is over 65,535.
+    long: u64,
 }
 
 fn any_words(random: &mut Random, count: usize) -> Vec<u16> {
@@ -276,6 +278,7 @@ impl Soak {
             kinds: [names, on_bytes].map(|names| names.map(Kind::new)),
             paths: ["read_path", "write_path"].map(Kind::new),
             fates: [0; 16],
+            long: 0,
         }
     }
 
@@ -363,7 +366,8 @@ impl Soak {
         let [_, output, work] = words;
         assert!(work.iter().all(|&word| word == 0), "work: {sheet:?}");
         self.kinds[usize::from(on_bytes)][LAY].count(&answer);
-        if answer.is_ok() {
+        if let Ok(totals) = answer {
+            self.long += u64::from(totals.used > 65_535);
             for entry in output.chunks_exact(4).take(pieces_of(sheet)) {
                 self.fates[usize::from(entry[0])] += 1;
             }
@@ -448,9 +452,12 @@ impl Soak {
     /// A job on a strip and an output of the right length or another.
     fn any_job(&mut self) {
         let damage = self.random.pick(&SheetDamage::ALL);
-        let sheet = match self.random.index(4) {
-            0 if damage != SheetDamage::TooLong => damaged_sheet(&mut self.random, damage).bytes,
-            1 => sound_sheet(&mut self.random),
+        let sheet = match self.random.index(8) {
+            0 | 1 if damage != SheetDamage::TooLong => {
+                damaged_sheet(&mut self.random, damage).bytes
+            }
+            2 | 3 => sound_sheet(&mut self.random),
+            4 | 5 => tied_job(&mut self.random).sheet(),
             _ => job(&mut self.random).sheet(),
         };
         let columns = sheet.get(8..10).map_or(1, |two| {
@@ -471,6 +478,14 @@ impl Soak {
             _ => small_gap(&mut self.random, 2),
         };
         self.lay(&sheet, g, strip, output);
+    }
+
+    /// A job on a long strip.
+    fn long_job(&mut self) {
+        let job = long_job(&mut self.random);
+        let strip = LEADING + usize::from(job.figures.columns) + 4 * 2_000;
+        let g = self.random.pick(&[0, 0, 1, 2]);
+        self.lay(&job.sheet(), g, strip, 4 * job.pieces.len());
     }
 
     /// A path read to an output of any length; its outline, or any, written.
@@ -531,6 +546,10 @@ fn main() {
             4 => soak.any_path(),
             _ => soak.any_job(),
         }
+        // The longest pieces take their time.
+        if soak.random.once_in(1_000) {
+            soak.long_job();
+        }
     }
     println!("{} calls, seed {seed}, no difference", soak.calls());
     for kind in soak.all_kinds() {
@@ -551,6 +570,7 @@ fn main() {
         "fates placed {}, 12: {}, 13: {}, 14: {}",
         soak.fates[0], soak.fates[12], soak.fates[13], soak.fates[14]
     );
+    println!("used length over 65,535: {}", soak.long);
     for (kinds, share) in soak.kinds.iter().zip([1, 3]) {
         // A soak that never meets a kind of call proves nothing about it.
         let least = calls / (100 * share);
@@ -589,6 +609,8 @@ fn main() {
             assert_eq!(looked, [true; 3], "{}", kind.name);
         }
     }
+    // Nor one that never meets a used length over 16 bits.
+    assert!(soak.long >= calls / 100_000, "{} long", soak.long);
     // Nor one that never meets a path that is granted, or one of the refusals.
     let numbers = [&[0, 15, 19, 20], &[0, 7, 8, 15]];
     for (kind, numbers) in soak.paths.iter().zip(numbers) {

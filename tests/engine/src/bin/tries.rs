@@ -5,8 +5,8 @@
 
 use engine::job::{in_millimetres, job_of_input, MOST_LIST, RECORDS, WORK};
 use reference::figures::{MOST_COLUMNS, MOST_RESOLUTION};
-use reference::outline::{extent, turned, vertices};
-use reference::{Figures, Piece, Position, Refusal, Tried};
+use reference::laying::right_edge_of;
+use reference::{Figures, Piece, Refusal, Tried};
 use std::process::exit;
 
 fn main() {
@@ -131,8 +131,8 @@ fn figures_at(own: Figures, resolution: u16) -> Result<Figures, String> {
 struct Laid {
     figures: Figures,
     tried: Vec<Tried>,
-    /// How far the placed outlines reach along the strip, in millimetres.
-    used: f64,
+    /// The used length, in units.
+    used: u32,
 }
 
 fn lay(figures: Figures, gap: u16, pieces: &[Piece]) -> Laid {
@@ -145,11 +145,11 @@ fn lay(figures: Figures, gap: u16, pieces: &[Piece]) -> Laid {
     if engine::open(width, resolution, columns, gap, &mut strip).is_err() {
         refused("the gap is over 50 mm");
     }
-    let (mut tried, mut used) = (Vec::new(), 0.0f64);
+    let (mut tried, mut used) = (Vec::new(), 0);
     for piece in pieces {
         let of_piece = engine::place(&mut strip, &piece.outline, piece.mask, &mut [0; WORK]);
         if let Ok(position) = of_piece.answer {
-            used = used.max(right_edge(piece, position, resolution));
+            used = used.max(right_edge_of(piece, position, resolution));
         }
         tried.push(of_piece);
     }
@@ -158,11 +158,6 @@ fn lay(figures: Figures, gap: u16, pieces: &[Piece]) -> Laid {
         tried,
         used,
     }
-}
-
-fn right_edge(piece: &Piece, position: Position, resolution: u16) -> f64 {
-    let (w, _) = extent(&turned(&vertices(&piece.outline), position.turn));
-    f64::from(position.column) * in_millimetres(resolution) + in_millimetres(w as u16)
 }
 
 /// One line for each piece and for each total, one column for each resolution.
@@ -193,7 +188,9 @@ fn table(laid: &[Laid], pieces: usize) -> String {
         let placed = laid.tried.iter().filter(|tried| tried.answer.is_ok());
         placed.count().to_string()
     });
-    text + &line("used length", &|laid| format!("{} mm", laid.used))
+    text + &line("used length", &|laid| {
+        format!("{} mm", in_millimetres(laid.used))
+    })
 }
 
 /// The numbers that pieces are refused with, each once, rising.

@@ -1,7 +1,7 @@
 -- The answer of the call, packed. Assumes nothing.
 use borrow.Author.Needs.{needs}
-use Rattle.vikelodu.proofs.vikelodu_lay_4.Statement.{statement}
-use Rattle.vikelodu.proofs.vikelodu_lay_4.Tie as tie
+use Rattle.vikelodu.proofs.vikelodu_lay_7.Statement.{statement}
+use Rattle.vikelodu.proofs.vikelodu_lay_7.Tie as tie
 
 lay-requires : tie.Need-lay-requires
 lay-requires c κs = search needs
@@ -21,5 +21,5 @@ same-length-3 c = search needs
 returns : tie.Need-returns
 returns c = record { answer = _; step = c .before .before .before .before .before .before .before .lay .ensures; packs = c .pack-laying .ensures }
 
-pub vikelodu-lay-4-spec : {M : Type 1} → statement M
-vikelodu-lay-4-spec = tie.close (tie.spec lay-requires pack-laying-requires same-length same-length-2 same-length-3 returns)
+pub vikelodu-lay-7-spec : {M : Type 1} → statement M
+vikelodu-lay-7-spec = tie.close (tie.spec lay-requires pack-laying-requires same-length same-length-2 same-length-3 returns)
