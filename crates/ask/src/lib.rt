@@ -1,4 +1,5 @@
 // The ask call: what place would answer. The strip is lent to be read, and no call below it can write one.
+#![tactic(auto)]
 
 ghost use Rattle.std.specs.Prelude.{◌≡◌, length};
 ghost use Rattle.defs.specs.Computing.Calls.{place_answer, place_tries, shown, AskStep};

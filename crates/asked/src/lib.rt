@@ -1,4 +1,5 @@
 // Questions 7 to 11 of one outline.
+#![tactic(auto)]
 
 ghost use Rattle.std.specs.Prelude.{true, ◌≤◌, ◌<◌};
 ghost use Rattle.defs.specs.Meaning.Question.{Question10};

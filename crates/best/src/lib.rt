@@ -1,4 +1,5 @@
 // The best position among the allowed turns.
+#![tactic(auto)]
 
 ghost use Rattle.std.specs.Prelude.{◌≡◌, ◌+◌, ◌≤◌, ◌<◌, length};
 ghost use Rattle.defs.specs.Meaning.Outline.{KeepsOrder};

@@ -1,4 +1,5 @@
 // Open and lay on buffers passed as bytes: the same calls on local words. Strip and output are copied, a work buffer is not (see byteput).
+#![tactic(auto)]
 
 ghost use Rattle.std.specs.Prelude.{◌≡◌, ◌/◌, ◌≤◌, min, length};
 ghost use Rattle.defs.specs.Computing.Bytes.{most_work, OpenBytesStep, LayBytesStep};

@@ -1,5 +1,6 @@
 // Place, ask and commit on buffers passed as bytes: the same calls on local words. Strip and outline are copied, a work buffer is not, since
 // only its number of words matters to a call: a local one of as many words, or of as many as are used of one, stands in for it.
+#![tactic(auto)]
 
 ghost use Rattle.std.specs.Prelude.{◌≡◌, ◌/◌, ◌≤◌, min, length};
 ghost use Rattle.defs.specs.Computing.Bytes.{most_work, PlaceBytesStep, AskBytesStep, CommitBytesStep};

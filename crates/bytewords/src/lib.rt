@@ -1,4 +1,5 @@
 // A buffer of words that is passed as bytes, two to a word, low byte first: its words read, put back and cleared.
+#![tactic(auto)]
 
 ghost use Rattle.std.specs.Prelude.{◌≡◌, ◌++◌, ◌*◌, ◌≤◌, length, take, drop};
 ghost use Rattle.defs.specs.Computing.Bytes.{words_in, word_bytes, bytes_left};

@@ -1,4 +1,5 @@
 // The chains of a strip, walked to their ends, and their records counted.
+#![tactic(auto)]
 
 ghost use Rattle.std.specs.Prelude.{◌<◌};
 ghost use Rattle.striprecords.specs.Free.{Sized};

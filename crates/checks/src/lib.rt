@@ -1,4 +1,5 @@
 // Questions 7 to 10.
+#![tactic(auto)]
 
 ghost use Rattle.std.specs.Prelude.{◌≡◌, true, false, ◌+◌, ◌*◌, ◌-◌, ◌≤◌, ◌<◌, min, max};
 ghost use Rattle.defs.specs.Meaning.Outline.{sides, edge_at};

@@ -1,4 +1,5 @@
 // The runs of one column of an outline in a turn.
+#![tactic(auto)]
 
 ghost use Rattle.std.specs.Prelude.{◌≡◌, ◌+◌, ◌-◌, ◌/◌, ◌≤◌, ◌<◌, length};
 ghost use Rattle.defs.specs.Meaning.Outline.{KeepsOrder};

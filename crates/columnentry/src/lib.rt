@@ -1,5 +1,6 @@
 // One column of a table laid flat, with a piece's runs entered into it: the old runs of the column are copied, and the piece's runs in the
 // column are joined to them, so that only words of one column are moved.
+#![tactic(auto)]
 
 ghost use Rattle.std.specs.Prelude.{◌+◌, ◌≤◌, ◌<◌, length};
 ghost use Rattle.columnentry.specs.Columns.{Fits, Copied, Split, Room, Added, Next, EntersColumn};

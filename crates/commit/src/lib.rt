@@ -1,4 +1,5 @@
 // The commit call.
+#![tactic(auto)]
 
 ghost use Rattle.std.specs.Prelude.{◌≡◌};
 ghost use Rattle.defs.specs.Computing.Calls.{CommitStep};

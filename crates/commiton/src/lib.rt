@@ -1,5 +1,6 @@
 // A commit on the runs of a strip: questions 7 to 12 of the position's turn alone, 18 and 14, and the next table with the piece in it. Granted,
 // it answers its position, as place does.
+#![tactic(auto)]
 
 ghost use Rattle.std.specs.Prelude.{length};
 ghost use Rattle.outline.specs.Vertex.{BoundsOf};

@@ -1,4 +1,5 @@
 // Copies: pieces of a sheet with the same outline and the same mask, one after the other.
+#![tactic(auto)]
 
 ghost use Rattle.std.specs.Prelude.{◌≡◌, true, ◌+◌, ◌*◌, ◌≤◌, length};
 ghost use Rattle.cutlist.specs.Pieces.{PieceAt};

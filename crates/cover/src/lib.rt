@@ -1,4 +1,5 @@
 // The cells of an outline in a turn: cover.
+#![tactic(auto)]
 
 ghost use Rattle.std.specs.Prelude.{◌≡◌, ◌≤◌, ◌^◌};
 ghost use Rattle.std.proofs.lemmas.List.Edits.{sets};

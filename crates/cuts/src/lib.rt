@@ -1,4 +1,5 @@
 // Where a slab of an outline in a turn may end, and whether its entries keep their order.
+#![tactic(auto)]
 
 ghost use Rattle.std.specs.Prelude.{◌≡◌, true, ◌<◌};
 ghost use Rattle.defs.specs.Meaning.Outline.{sides};

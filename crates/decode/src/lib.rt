@@ -1,4 +1,5 @@
 // A strip's runs, taken into a table laid flat. Question 5 is answered in the same walk, so that no chain is walked twice.
+#![tactic(auto)]
 
 ghost use Rattle.std.specs.Prelude.{◌≤◌, ◌<◌, length};
 ghost use Rattle.striprecords.specs.Free.{Sized};

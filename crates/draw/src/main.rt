@@ -1,4 +1,5 @@
 // Program `draw`: lays the sheet on standard input, with the gap in front of it or without one, and prints a picture of the strip in SVG.
+#![tactic(auto)]
 
 use defs::Laying;
 use libc::{STDIN_FILENO, STDOUT_FILENO};

@@ -1,4 +1,5 @@
 // A picture of a job, in SVG, as bytes of a buffer: the strip, and on it each placed piece.
+#![tactic(auto)]
 
 use defs::{Figures, Laying, Reading, Totals};
 use frame::Scene;

@@ -1,5 +1,6 @@
 // A piece's runs entered into a table laid flat. The new table is built column by column in arrays of its own: the old runs of the column
 // are copied to its end, and the piece's runs in the column are joined to them, so that only words of one column are moved.
+#![tactic(auto)]
 
 ghost use Rattle.std.specs.Prelude.{◌≤◌, ◌<◌, length};
 ghost use Rattle.columnentry.specs.Columns.{Old, Fits};

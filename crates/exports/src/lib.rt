@@ -1,4 +1,5 @@
 // Parts of the calls as C functions, for tests and benchmarks.
+#![tactic(auto)]
 
 ghost use Rattle.std.specs.Prelude.{◌≡◌};
 ghost use Rattle.defs.specs.Computing.Words.{well_formedb};

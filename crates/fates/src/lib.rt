@@ -1,4 +1,5 @@
 // A piece's fate in a job: its entry in the output, and what it adds to the job's totals.
+#![tactic(auto)]
 
 ghost use Rattle.std.specs.Prelude.{◌≡◌, ◌*◌, ◌-◌, ◌≤◌, length};
 ghost use Rattle.std.proofs.lemmas.List.Edits.{sets};

@@ -1,4 +1,5 @@
 // Job sheets: numbers in bytes, where those of the front stand, questions 1 and 2.
+#![tactic(auto)]
 
 ghost use Rattle.std.specs.Prelude.{◌≡◌, ◌+◌, ◌*◌, ◌≤◌, ◌<◌, length};
 ghost use Rattle.std.proofs.lemmas.List.Edits.{sets};

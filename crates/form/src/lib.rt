@@ -1,5 +1,6 @@
 // Question 5: is a strip well formed? Each chain is walked to its end, and its records are counted. No record is in two chains, since
 // its column names the chain, and none comes twice in a chain that ends; so each is in one when the count is the number of records.
+#![tactic(auto)]
 
 ghost use Rattle.std.specs.Prelude.{◌≡◌, ◌<◌};
 ghost use Rattle.defs.specs.Computing.Words.{well_formedb};

@@ -1,6 +1,7 @@
 // The strip around the pieces of a picture: board, scale, lengths, and what is said below it. Heights are written as negative y, since
 // SVG's y goes down: the strip's lower edge is y = 0. What stands beside the strip is measured in em, so that SVG places it by the size of
 // the text.
+#![tactic(auto)]
 
 ghost use Rattle.std.specs.Prelude.{◌≤◌};
 

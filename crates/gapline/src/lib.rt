@@ -1,4 +1,5 @@
 // The line `gap 3.125` of a job, in millimetres: in its text, and in front of its sheet, which has no place for a gap.
+#![tactic(auto)]
 
 ghost use Rattle.std.specs.Prelude.{◌≤◌, length};
 

@@ -1,4 +1,5 @@
 // The rows between edges, in pairs, joined to the runs of a column.
+#![tactic(auto)]
 
 ghost use Rattle.std.specs.Prelude.{◌+◌, ◌<◌};
 ghost use Rattle.entries.specs.Edges.{AllFit};

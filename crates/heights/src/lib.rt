@@ -1,5 +1,6 @@
 // The least free height in a column, going round the piece's runs: a run rises until it is free, then the next one does, until all are
 // free at one height.
+#![tactic(auto)]
 
 ghost use Rattle.std.specs.Prelude.{ℕ, ◌+◌, ◌-◌, ◌≤◌, ◌<◌};
 ghost use Rattle.tables.specs.Flat.{Occupied};

@@ -1,4 +1,5 @@
 // Whether an outline has a cell in a turn.
+#![tactic(auto)]
 
 ghost use Rattle.std.specs.Prelude.{◌≡◌, true, ◌≤◌, ◌<◌, length};
 ghost use Rattle.defs.specs.Meaning.Outline.{KeepsOrder};

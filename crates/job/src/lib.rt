@@ -1,4 +1,5 @@
 // A job that passes its questions: its pieces on two tables that take turns, so that nothing is decoded and the strip is written once.
+#![tactic(auto)]
 
 ghost use Rattle.std.specs.Prelude.{[], length, get_or};
 ghost use Rattle.defs.specs.Computing.Calls.{Left};

@@ -1,4 +1,5 @@
 // Joining a run of rows into a sorted list of runs that do not touch: the runs of one column, from word 0 on.
+#![tactic(auto)]
 
 ghost use Rattle.std.specs.Prelude.{◌<◌, length};
 ghost use Rattle.join.specs.Runs.{Apart, Joined};

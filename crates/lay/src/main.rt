@@ -1,4 +1,5 @@
 // Program `lay`: lays the sheet on standard input, and prints what became of its pieces.
+#![tactic(auto)]
 
 ghost use Rattle.std.specs.Prelude.{◌≤◌, length};
 

@@ -1,4 +1,5 @@
 // The lay call: all questions of a job, then its pieces, one after another, on a strip that is opened for them.
+#![tactic(auto)]
 
 ghost use Rattle.std.specs.Prelude.{◌≡◌, ◌*◌, length};
 ghost use Rattle.defs.specs.Meaning.Sheet.{sheet_n};

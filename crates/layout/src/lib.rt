@@ -1,4 +1,5 @@
 // The lines of a layout, as bytes of a buffer.
+#![tactic(auto)]
 
 ghost use Rattle.std.specs.Prelude.{◌+◌, ◌*◌};
 ghost use Rattle.words.specs.Put.{Put};

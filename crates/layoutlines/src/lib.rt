@@ -1,4 +1,5 @@
 // The single lines of a layout, as bytes of a buffer.
+#![tactic(auto)]
 
 ghost use Rattle.std.specs.Prelude.{[], ◌∷◌, ◌+◌, ◌*◌, ◌≤◌, length};
 ghost use Rattle.defs.specs.Computing.Text.{line, totals_line};

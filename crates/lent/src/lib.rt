@@ -1,4 +1,5 @@
 // What program `lay` lends: a strip with so many records, output and work buffer. The strip has room for the most columns.
+#![tactic(auto)]
 
 ghost use Rattle.lent.specs.Strips.{StripWords};
 

@@ -1,4 +1,5 @@
 // Questions 3, 16, 17, 21 and 4: the limits of width, resolution, columns, gap and records, and the length of a strip.
+#![tactic(auto)]
 
 ghost use Rattle.std.specs.Prelude.{◌≡◌, ◌&&◌, leb};
 ghost use Rattle.defs.specs.Computing.Words.{resolutionb, gapb, limits_no, figures_no, lengthb, records_of};

@@ -1,6 +1,7 @@
 // The lines of a text, into a cut list. A text has a line `strip W R N`, then for each piece a line `piece MASK x,y x,y x,y ..`, or
 // `path MASK NAME` with the name of a file that holds its outline as a path. Before the pieces there may be a line `gap 3.125`, always in
 // millimetres. `#` begins a comment; after a line `mm` all other lengths are millimetres, before it units of 1/8 mm.
+#![tactic(auto)]
 
 ghost use Rattle.std.specs.Prelude.{◌+◌, ◌≤◌, ◌<◌, length};
 ghost use Rattle.pathfile.specs.Within.{Within};

@@ -1,4 +1,5 @@
 // The outlines of a cut list, one after another.
+#![tactic(auto)]
 
 ghost use Rattle.std.specs.Prelude.{◌≤◌, length};
 

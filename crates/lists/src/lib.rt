@@ -1,4 +1,5 @@
 // Questions 7 to 11 of a cut list.
+#![tactic(auto)]
 
 ghost use Rattle.std.specs.Prelude.{◌≡◌, true, ◌+◌, ◌*◌, ◌≤◌, ◌<◌, length, drop};
 ghost use Rattle.defs.specs.Computing.Sheets.{q6_listb, q7_listb};

@@ -1,4 +1,5 @@
 // Where in a piece its ordinal stands, and how large: by its runs of cells, in the longest of them that has room.
+#![tactic(auto)]
 
 ghost use Rattle.std.specs.Prelude.{◌≡◌, ◌*◌, ◌-◌, ◌≤◌, min};
 

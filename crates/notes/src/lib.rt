@@ -1,4 +1,5 @@
 // Notes on a job: the pieces whose outline draws a stretch twice.
+#![tactic(auto)]
 
 ghost use Rattle.std.specs.Prelude.{◌≤◌, length};
 

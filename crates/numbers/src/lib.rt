@@ -1,5 +1,6 @@
 // The limits of document 01, named as in the definitions (defs/specs/Meaning/Limits), and small functions of numbers. That the two
 // agree is proved with each function that uses one.
+#![tactic(auto)]
 
 ghost use Rattle.std.specs.Prelude.{◌≡◌, ◌≤◌, min, max};
 

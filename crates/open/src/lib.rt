@@ -1,4 +1,5 @@
 // The open call: a strip with all columns empty and all records free.
+#![tactic(auto)]
 
 ghost use Rattle.std.specs.Prelude.{◌≡◌, length};
 ghost use Rattle.defs.specs.Computing.Calls.{OpenStep, opened_strip};

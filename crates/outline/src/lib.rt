@@ -1,4 +1,5 @@
 // The outline: bounds, extents, vertices and edges, read through the turn. No turned outline is stored.
+#![tactic(auto)]
 
 ghost use Rattle.std.specs.Prelude.{◌≡◌, ◌≤◌, ◌<◌};
 ghost use Rattle.defs.specs.Meaning.Outline.{sides, after, edge_between};

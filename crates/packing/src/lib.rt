@@ -1,4 +1,5 @@
 // An answer of several numbers in one of 64 bits.
+#![tactic(auto)]
 
 ghost use Rattle.defs.specs.Answer.{opening, covering, placing, asking, committing, reading, writing, laying, retracing};
 ghost use Rattle.pathdefs.specs.Answer.{path_reading};

@@ -1,1 +1,2 @@
 // What is promised of paths; no function.
+#![tactic(auto)]

@@ -1,4 +1,5 @@
 // The steps of a path, read from its bytes; the units of a step's coordinates.
+#![tactic(auto)]
 
 ghost use Rattle.std.specs.Prelude.{◌≡◌, ◌+◌, ◌<◌, length, drop};
 ghost use Rattle.pathdefs.specs.Computing.Paths.{bits_at};

@@ -1,4 +1,5 @@
 // Lays one piece of a sheet on the current one of two tables of runs, which take turns.
+#![tactic(auto)]
 
 ghost use Rattle.std.specs.Prelude.{◌≡◌, ◌*◌, ◌≤◌, length};
 ghost use Rattle.defs.specs.Computing.Calls.{q9b};

@@ -1,4 +1,5 @@
 // Questions 7 to 11 of the pieces of a sheet, in the order of their chain.
+#![tactic(auto)]
 
 ghost use Rattle.std.specs.Prelude.{◌≡◌, ◌+◌, ◌≤◌};
 ghost use Rattle.defs.specs.Meaning.Sheet.{sheet_r};

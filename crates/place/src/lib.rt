@@ -1,4 +1,5 @@
 // The place call.
+#![tactic(auto)]
 
 ghost use Rattle.defs.specs.Computing.Calls.{PlaceStep};
 

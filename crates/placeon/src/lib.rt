@@ -1,4 +1,5 @@
 // Place on the runs of a strip: questions 7 to 14, and the next table with the piece in it.
+#![tactic(auto)]
 
 ghost use Rattle.std.specs.Prelude.{length};
 ghost use Rattle.position.specs.Table.{Tabled, CountedOn};

@@ -1,4 +1,5 @@
 // The best position of an outline on a table of runs, and the table with the piece entered there: what place, commit and lay share.
+#![tactic(auto)]
 
 ghost use Rattle.std.specs.Prelude.{◌≡◌, ◌*◌, ◌≤◌, length};
 ghost use Rattle.defs.specs.Meaning.Outline.{KeepsOrder};

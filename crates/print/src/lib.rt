@@ -1,4 +1,5 @@
 // Bytes and numbers put into a buffer.
+#![tactic(auto)]
 
 ghost use Rattle.std.specs.Prelude.{◌≡◌, ◌+◌, ◌*◌, ◌%◌, ◌≤◌, ◌<◌, length};
 ghost use Rattle.defs.specs.Computing.Text.{decimal, long_decimal, spaced};

@@ -1,1 +1,2 @@
 // All that is promised, on one page: proofs/Promises. No function.
+#![tactic(auto)]

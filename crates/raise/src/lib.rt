@@ -1,4 +1,5 @@
 // Runs of one column raised: each goes g rows further up, and those that then touch or overlap are joined.
+#![tactic(auto)]
 
 ghost use Rattle.std.specs.Prelude.{ℕ, ◌+◌, ◌≤◌, ◌<◌, length, get_or};
 ghost use Rattle.join.specs.Runs.{Apart};

@@ -1,4 +1,5 @@
 // Positions in turns, which of two is better, and which columns a right edge leaves to search.
+#![tactic(auto)]
 
 ghost use Rattle.std.specs.Prelude.{◌≡◌, ◌+◌, ◌*◌, ◌-◌, ◌≤◌};
 ghost use Rattle.defs.specs.Meaning.Placing.{columns_for};

@@ -1,5 +1,6 @@
 // The text of a sheet: a line `strip W R N`, then for each piece a line `piece MASK x,y x,y x,y ..`, in units. A gap that stands in front
 // of the sheet comes after the strip, as it stands there, in millimetres.
+#![tactic(auto)]
 
 ghost use Rattle.std.specs.Prelude.{◌+◌, ◌*◌, ◌≤◌, ◌<◌, length};
 ghost use Rattle.words.specs.Put.{Put};

@@ -1,4 +1,5 @@
 // The reader of a sheet: the three numbers of a record.
+#![tactic(auto)]
 
 ghost use Rattle.std.specs.Prelude.{◌≡◌, ◌+◌, ◌*◌, ◌≤◌, length};
 ghost use Rattle.reader.specs.Records.{numbers_at};

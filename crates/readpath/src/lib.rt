@@ -1,4 +1,5 @@
 // Reading a path of the drawing program: its shape, its coordinates, and the outline that it gives as words of the output.
+#![tactic(auto)]
 
 ghost use Rattle.std.specs.Prelude.{◌≡◌, ◌-◌, ◌*◌, ◌≤◌, length, drop};
 ghost use Rattle.pathdefs.specs.Meaning.Path.{step_bytes};

@@ -1,4 +1,5 @@
 // Reading a job sheet: its questions, and its cut list as words of the output.
+#![tactic(auto)]
 
 ghost use Rattle.std.specs.Prelude.{true, ◌≡◌, ◌≤◌, length};
 ghost use Rattle.defs.specs.Meaning.Sheet.{sheet_n};

@@ -1,4 +1,5 @@
 // Job sheets: chains of records, questions 6 and 7.
+#![tactic(auto)]
 
 ghost use Rattle.std.specs.Prelude.{◌+◌, ◌*◌, ◌≤◌, ◌<◌, length};
 ghost use Rattle.defs.specs.Meaning.Sheet.{sheet_v, sheet_p};

@@ -1,4 +1,5 @@
 // The retrace call: whether an outline, as it is lent, goes twice along a stretch, and along which two edges first.
+#![tactic(auto)]
 
 ghost use Rattle.std.specs.Prelude.{◌≡◌, ◌+◌, ◌≤◌, ◌<◌};
 ghost use Rattle.defs.specs.Meaning.Outline.{sides};

@@ -1,6 +1,7 @@
 // The search for a piece's least free position in one turn, going round the piece's runs: a run rises until it is free, then the next
 // one does, until all are free at one height; the next column begins with the run that stopped the last one. The position is that of the
 // walk, the heights tried are not.
+#![tactic(auto)]
 
 ghost use Rattle.std.specs.Prelude.{◌≡◌, ◌+◌, ◌-◌, ◌≤◌, ◌<◌, min};
 ghost use Rattle.walk.specs.Free.{Frame};

@@ -1,4 +1,5 @@
 // Joining rows into a sorted list of runs that do not touch, the last column of a growing table.
+#![tactic(auto)]
 
 ghost use Rattle.std.specs.Prelude.{◌+◌, ◌≤◌, ◌<◌, length};
 ghost use Rattle.runs.specs.Runs.{Apart, Joined, Up, Down, Reaches, Passes};

@@ -1,4 +1,5 @@
 // The least free position in one turn, by the walk or going round the runs of the piece.
+#![tactic(auto)]
 
 ghost use Rattle.std.specs.Prelude.{◌+◌, ◌-◌, ◌≤◌};
 ghost use Rattle.defs.specs.Meaning.Placing.{columns_for};

@@ -1,4 +1,5 @@
 // The slab of an outline in a turn that reaches over some x, with the edges that span it, in order.
+#![tactic(auto)]
 
 ghost use Rattle.std.specs.Prelude.{◌≡◌, ◌<◌, length};
 ghost use Rattle.defs.specs.Meaning.Outline.{sides, KeepsOrder};

@@ -1,4 +1,5 @@
 // Lays the pieces of the chain, one after another.
+#![tactic(auto)]
 
 ghost use Rattle.std.specs.Prelude.{length};
 ghost use Rattle.tables.specs.Flat.{table_of};

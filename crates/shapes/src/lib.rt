@@ -1,4 +1,5 @@
 // The placed pieces of a picture: the gap around them, outlines, what they draw twice, and ordinals.
+#![tactic(auto)]
 
 ghost use Rattle.std.specs.Prelude.{◌≡◌, ◌+◌, ◌*◌, ◌≤◌, ◌<◌};
 ghost use Rattle.defs.specs.Meaning.Outline.{sides};

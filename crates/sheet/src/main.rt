@@ -1,4 +1,5 @@
 // Program `sheet`: writes the sheet of the text on standard input, and to standard error what it draws twice or what is wrong with it.
+#![tactic(auto)]
 
 use libc::{STDERR_FILENO, STDIN_FILENO, STDOUT_FILENO};
 use typed::Made;

@@ -1,4 +1,5 @@
 // Program `show`: prints the sheet on standard input, with or without a gap in front of it, as text.
+#![tactic(auto)]
 
 use libc::{STDIN_FILENO, STDOUT_FILENO};
 

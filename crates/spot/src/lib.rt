@@ -1,4 +1,5 @@
 // A piece at one position: whether it is on the strip and free there.
+#![tactic(auto)]
 
 ghost use Rattle.std.specs.Prelude.{◌+◌, ◌≤◌};
 ghost use Rattle.walk.specs.Free.{Frame};

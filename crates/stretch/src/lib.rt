@@ -1,4 +1,5 @@
 // The stretch that two edges share, for pictures and messages.
+#![tactic(auto)]
 
 ghost use Rattle.std.specs.Prelude.{◌<◌};
 ghost use Rattle.defs.specs.Meaning.Outline.{sides};

@@ -1,4 +1,5 @@
 // The records of a strip: their words, and free records that lead to the next.
+#![tactic(auto)]
 
 ghost use Rattle.std.specs.Prelude.{◌≡◌, ◌≤◌, ◌<◌, length, get_or};
 ghost use Rattle.defs.specs.Meaning.Strip.{word_of, IsFree};

@@ -1,5 +1,6 @@
 // Templates of a picture in SVG, filled with numbers and put into a buffer as far as it has room. Lengths are hundredths of a unit until
 // they are written.
+#![tactic(auto)]
 
 ghost use Rattle.std.specs.Prelude.{◌≤◌};
 

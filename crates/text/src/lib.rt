@@ -1,4 +1,5 @@
 // What program `lay` prints, as bytes of a buffer.
+#![tactic(auto)]
 
 ghost use Rattle.std.specs.Prelude.{◌≡◌, ◌≤◌, length, take};
 ghost use Rattle.defs.specs.Computing.Sheets.{piece_records};

@@ -1,4 +1,5 @@
 // Parts of a text: lines, comments, blanks, words, numbers, vertices.
+#![tactic(auto)]
 
 ghost use Rattle.std.specs.Prelude.{◌≤◌, ◌<◌, max, length};
 ghost use Rattle.tokens.specs.Few.{Few};

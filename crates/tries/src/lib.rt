@@ -1,4 +1,5 @@
 // One run of a piece, tried at a height in a column of the table.
+#![tactic(auto)]
 
 ghost use Rattle.std.specs.Prelude.{◌≡◌, ◌+◌, ◌-◌, ◌≤◌, ◌<◌, min};
 ghost use Rattle.tries.specs.Tries.{Column, Tries};

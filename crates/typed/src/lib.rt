@@ -1,4 +1,5 @@
 // The sheet of a text that a person typed, with notes on what it draws twice, or what is wrong with the text.
+#![tactic(auto)]
 
 ghost use Rattle.std.specs.Prelude.{◌+◌, ◌≤◌, length};
 ghost use Rattle.typed.specs.Fits.{Fits};

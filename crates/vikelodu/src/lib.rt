@@ -1,6 +1,7 @@
 // The calls as C functions: an answer of several numbers in one of 64 bits; place and ask have their tries beside it. A call whose
 // arguments or answer have changed has the number of the header's edition in its name, so that a program compiled against an older header
 // does not link.
+#![tactic(auto)]
 
 ghost use Rattle.packing.specs.Steps.{OpenPacked, CoverPacked, PlacePacked, AskPacked, CommitPacked, ReadPacked, WritePacked, LayPacked, RetracePacked, PathReadPacked, PathWritePacked, OpenBytesPacked, PlaceBytesPacked, AskBytesPacked, CommitBytesPacked, LayBytesPacked};
 

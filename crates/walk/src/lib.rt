@@ -1,5 +1,6 @@
 // The search for a piece's least free position in one turn: column by column, and in a column from height 0 on by jumps. The heights
 // tried are counted.
+#![tactic(auto)]
 
 ghost use Rattle.std.specs.Prelude.{◌≡◌, ◌+◌, ◌-◌, ◌≤◌, ◌<◌};
 ghost use Rattle.walk.specs.Free.{Frame, InColumns, Before, GoesOn};

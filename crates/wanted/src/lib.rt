@@ -1,5 +1,6 @@
 // A piece wanted on a strip, at the best position in the turns of a mask or at a given position: the answer to the strip's words, and the
 // strip with the piece on it. Place, ask and commit are this.
+#![tactic(auto)]
 
 ghost use Rattle.std.specs.Prelude.{◌≤◌, length};
 ghost use Rattle.decode.specs.Decodes.{Holds_runs};

@@ -1,4 +1,5 @@
 // Writing an outline as a path of the drawing program.
+#![tactic(auto)]
 
 ghost use Rattle.std.specs.Prelude.{◌≡◌, true, drop};
 ghost use Rattle.std.proofs.lemmas.List.Edits.{sets};

@@ -1,4 +1,5 @@
 // Writing a cut list as a job sheet.
+#![tactic(auto)]
 
 ghost use Rattle.std.specs.Prelude.{◌≡◌, ◌+◌, ◌*◌, ◌<◌};
 ghost use Rattle.defs.specs.Computing.Sheets.{q6_listb, WriteStep};
