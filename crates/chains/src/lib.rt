@@ -8,14 +8,14 @@ ghost use Rattle.chains.specs.Answers.{Marks, Chains};
 use striprecords::Shape;
 
 // A chain that ends, of so many records.
-#[derive(Drop)]
+#[derive(Clone, Copy)]
 pub enum Chain {
     Whole(usize),
     Broken,
 }
 
 // The high of a run.
-#[derive(Drop)]
+#[derive(Clone, Copy)]
 pub enum Mark {
     High(usize),
     Wrong,

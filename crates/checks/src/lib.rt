@@ -40,7 +40,7 @@ fn eight(o: &[u16], b: Bounds) -> bool
 }
 
 // The first of the questions asked that gets "no", by its number, or the bounds of an outline that passes them: they are worked out once.
-#[derive(Drop)]
+#[derive(Clone, Copy)]
 pub enum Checked {
     No(u16),
     Passes(Bounds),

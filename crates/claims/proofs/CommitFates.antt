@@ -1,4 +1,4 @@
--- The five fates of a commit on a well_formed strip, with what the definitions say in each.
+-- The five fates of a commit on a well-formed strip, with what the definitions say in each.
 -- Assumes nothing.
 use mathlib.Core.Path.{◌≡◌, refl}
 use mathlib.Core.Bool.{Bool, true, false}

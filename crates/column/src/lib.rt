@@ -13,7 +13,7 @@ use cuts::Section;
 use outline::Frame;
 
 // The runs of a column, and the slab that was looked at last.
-#[derive(Drop)]
+#[derive(Clone, Copy)]
 pub struct Filled {
     pub runs: usize,
     pub slab: Section,

@@ -6,7 +6,7 @@ ghost use Rattle.std.specs.Prelude.{◌+◌, ◌≤◌, ◌<◌, length};
 ghost use Rattle.columnentry.specs.Columns.{Fits, Copied, Split, Room, Added, Next, EntersColumn};
 
 // The columns and the width of the table, and the most runs that it may have; how many runs the piece has, and where it is placed.
-#[derive(Drop)]
+#[derive(Clone, Copy)]
 pub struct Entry {
     pub columns: usize,
     pub width: u16,
@@ -17,7 +17,7 @@ pub struct Entry {
 }
 
 // How many runs the new table has so far, and how many of the piece's runs are entered.
-#[derive(Drop)]
+#[derive(Clone, Copy)]
 pub struct Built {
     pub runs: usize,
     pub used: usize,

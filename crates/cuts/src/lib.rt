@@ -12,7 +12,7 @@ use outline::Frame;
 
 // The slab that was looked at last, from x = start to x = end, how many edges span it, and where the next slab may end. Empty where
 // start is end. Four words of 16 bits, so that one move copies it: it goes through several calls for each column.
-#[derive(Drop)]
+#[derive(Clone, Copy)]
 pub struct Section {
     pub start: u16,
     pub end: u16,

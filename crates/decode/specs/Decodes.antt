@@ -1,4 +1,4 @@
--- What decode answers: the runs of a well_formed strip in a table laid flat.
+-- What decode answers: the runs of a well-formed strip in a table laid flat.
 -- Assumes nothing.
 use Rattle.std.specs.Prelude.{◌≡◌, true, false, List, ℕ, ◌≤◌, length}
 use Rattle.defs.specs.Meaning.Strip.{columns_of}

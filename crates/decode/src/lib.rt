@@ -11,7 +11,7 @@ use form::Size;
 use striprecords::Shape;
 
 // The number of runs.
-#[derive(Drop)]
+#[derive(Clone, Copy)]
 pub enum Decoded {
     Runs(usize),
     Ill,
@@ -81,7 +81,7 @@ fn take_all(s: &[u16], g: Shape, first: &mut [u16], lows: &mut [u16], highs: &mu
     }
 }
 
-// The runs of a well_formed strip, by column then low.
+// The runs of a well-formed strip, by column then low.
 pub fn decode(s: &[u16], first: &mut [u16], lows: &mut [u16], highs: &mut [u16]) -> Decoded
     requires { (4097 ≤ length first.old) × (16000 ≤ length lows.old) × (16000 ≤ length highs.old) }
     ensures { Decodes s.now first.new lows.new highs.new result }

@@ -9,7 +9,7 @@ ghost use Rattle.enter.specs.Enters.{Enters};
 use columnentry::{Built, Entry};
 
 // How many runs the new table has, or that they are more than it may have.
-#[derive(Drop)]
+#[derive(Clone, Copy)]
 pub enum Entering {
     Runs(usize),
     Full,

@@ -17,7 +17,7 @@ pub extern "C" fn vikelodu_well_formed(strip: &[u16]) -> bool
     form::well_formed(strip)
 }
 
-// The number of runs of a well_formed strip.
+// The number of runs of a well-formed strip.
 #[unsafe(no_mangle)]
 pub extern "C" fn vikelodu_decoded(strip: &[u16]) -> u32
     ensures { result ≡ decoded_answer strip.now }
@@ -31,7 +31,7 @@ pub extern "C" fn vikelodu_decoded(strip: &[u16]) -> u32
     }
 }
 
-// A well_formed strip, written anew.
+// A well-formed strip, written anew.
 #[unsafe(no_mangle)]
 pub extern "C" fn vikelodu_rewrite(strip: &mut [u16]) -> u64
     ensures fact_1 { result ≡ rewrite_answer strip.old }

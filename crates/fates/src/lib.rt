@@ -14,7 +14,7 @@ use outline::Bounds;
 
 // The ordinal of the next piece, the pieces placed and the length used so far, whether the second table is current, and before which right
 // edge a copy of the last piece has no free position.
-#[derive(Drop)]
+#[derive(Clone, Copy)]
 pub struct Tally {
     pub ordinal: u16,
     pub placed: u16,

@@ -10,7 +10,7 @@ ghost use Rattle.form.specs.Answers.{Sizes};
 use chains::Chain;
 use striprecords::Shape;
 
-#[derive(Drop)]
+#[derive(Clone, Copy)]
 pub enum Size {
     Kept(Shape),
     Ill,

@@ -11,7 +11,7 @@ use defs::{Figures, Refusal, Totals};
 const SPACES: u64 = 20;
 
 // What the picture shows: the board's first columns, a little beyond the used length.
-#[derive(Drop)]
+#[derive(Clone, Copy)]
 pub struct Scene {
     pub width: u16,
     pub resolution: u16,

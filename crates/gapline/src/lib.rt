@@ -12,7 +12,7 @@ pub const ROOM: usize = 16;
 // One byte more than a sheet with its line may have, so that longer input is noticed.
 pub const INPUT: usize = 65553;
 
-#[derive(Drop)]
+#[derive(Clone, Copy)]
 pub enum Gap {
     // in units
     Is(u16),
@@ -39,7 +39,7 @@ pub fn gap_at(line: &[u8], at: usize) -> Gap {
 }
 
 // What stands in front of a sheet: the gap in units, 0 without a line, and the place where the sheet begins.
-#[derive(Drop)]
+#[derive(Clone, Copy)]
 pub struct Front {
     pub gap: u16,
     pub sheet: usize,

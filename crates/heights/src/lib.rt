@@ -11,7 +11,7 @@ ghost use Rattle.heights.specs.Rounds.{Settled, NextRun, RunsLeft, Rounded};
 use walk::Search;
 
 // What a column says: its least free height, or the run that found none.
-#[derive(Drop)]
+#[derive(Clone, Copy)]
 pub enum Round {
     Up(u16),
     Full(usize),

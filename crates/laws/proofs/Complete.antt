@@ -1,4 +1,4 @@
--- The test of question 5 decides it. Formed has that a strip which passes is well formed; here, a well_formed strip passes.
+-- The test of question 5 decides it. Formed has that a strip which passes is well formed; here, a well-formed strip passes.
 -- A chain that ends comes to no record twice, and its records are 1 to Q: so, by the pigeonhole principle, it ends within Q
 -- records, and its list of room Q is whole. Assumes nothing.
 use mathlib.Core.Path.{◌≡◌, refl, sym, subst}
@@ -55,7 +55,7 @@ module _ (s : List ℕ) (Q : ℕ) where
   unfolding chain_by occurrences
   at_most_once e zero x = omega arith
   at_most_once zero_ends (suc n) x = omega arith
-  at_most_once (goes_on {r} h l e) (suc n) x = go (ℕ_discrete r x) (at_most_once e n x)
+  at_most_once (goes_on {r} h l e) (suc n) x = go (ℕ_discrete r x) (at_most_once {r = next_of s r} e n x)
     where
       rest : List ℕ
       rest = chain_by (next_of s) n (next_of s r)
@@ -63,7 +63,7 @@ module _ (s : List ℕ) (Q : ℕ) where
       go : Dec (r ≡ x) → occurrences x rest ≤ 1 → occurrences x (chain_by (next_of s) (suc n) r) ≤ 1
       go (yes q) k =
           let none : ¬ (0 < occurrences r rest) = λ o. no_return (goes_on h l e) (chained_of s r n (next_of s r) o) in
-          rw (chain_step (next_of s) n r h, ← q) (omega (arith, occurs_first r rest))
+          subst (λ (y : ℕ). occurrences y (chain_by (next_of s) (suc n) r) ≤ 1) q (rw (chain_step (next_of s) n r h) (omega (arith, occurs_first r rest)))
       go (no q) k = rw (chain_step (next_of s) n r h, occurs_later x r rest q) k
 
   -- within room n the chain ends, or its list is longer than n

@@ -21,7 +21,7 @@ const LEAST_VERTICES: usize = 3;
 const MOST_PIECE_WORDS: usize = 130;
 
 // What a text has said so far.
-#[derive(Drop)]
+#[derive(Clone, Copy)]
 pub struct Job {
     // the numbers of the present line and of the strip's, 0 before there is one
     pub line: u16,
@@ -38,7 +38,7 @@ pub struct Job {
     pub mm: bool,
 }
 
-#[derive(Drop)]
+#[derive(Clone, Copy)]
 pub enum Line {
     Good(Job),
     Bad(Fault),
@@ -213,7 +213,7 @@ fn piece_line(line: &[u8], at: usize, typed: bool, job: Job, list: &mut [u16]) -
 }
 
 // What a line says, by its first word.
-#[derive(Drop)]
+#[derive(Clone, Copy)]
 pub enum Kind {
     Strip,
     Piece,
@@ -269,7 +269,7 @@ fn text_line(text: &[u8], at: usize, end: usize, job: Job, list: &mut [u16]) -> 
     bare_line(&text[at..c], job, list)
 }
 
-#[derive(Drop)]
+#[derive(Clone, Copy)]
 pub enum Text {
     Good(Job),
     // with the number of the line, 0 where it is no line's fault

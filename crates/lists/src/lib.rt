@@ -49,7 +49,7 @@ fn piece_no(list: &[u16], a: usize) -> u16
     outline_no(list, a)
 }
 
-#[derive(Drop)]
+#[derive(Clone, Copy)]
 pub enum No {
     // with the number of vertices
     Pass(usize),

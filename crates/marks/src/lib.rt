@@ -29,7 +29,7 @@ pub fn difference(a: u16, b: u16) -> u16
 }
 
 // A run of cells in a column; or a band, some rows of a piece, the lowest and the highest, and a column that has them.
-#[derive(Drop)]
+#[derive(Clone, Copy)]
 struct Run {
     column: u16,
     low: u16,
@@ -76,7 +76,7 @@ fn best_run(runs: &[u16], count: u32, middle: u16, r: u16) -> Run {
 }
 
 // Columns in a row, from one to before another.
-#[derive(Drop)]
+#[derive(Clone, Copy)]
 struct Stretch {
     from: u32,
     to: u32,
@@ -122,7 +122,7 @@ pub fn part_of(long: u16) -> u16
 }
 
 // Units of a piece in a row.
-#[derive(Drop)]
+#[derive(Clone, Copy)]
 struct Units {
     from: u16,
     to: u16,
@@ -163,7 +163,7 @@ fn ordinal_font(font: u64, tall: u16, t: Units, k: u64) -> u64
 }
 
 // Where the middle of an ordinal stands in its piece, and its size, in hundredths.
-#[derive(Drop)]
+#[derive(Clone, Copy)]
 pub struct Spot {
     pub x: u32,
     pub y: u32,

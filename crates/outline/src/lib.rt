@@ -8,7 +8,7 @@ ghost use Rattle.defs.specs.Computing.Vertices.{distance, read_x, read_y};
 ghost use Rattle.outline.specs.Vertex.{Lent, BoundsOf, FrameOf, VertexOf, SideOf, edge_of};
 
 // The least and the greatest x and y of an outline.
-#[derive(Drop)]
+#[derive(Clone, Copy)]
 pub struct Bounds {
     pub left: u16,
     pub right: u16,
@@ -17,13 +17,13 @@ pub struct Bounds {
 }
 
 // The width and the height of an outline in a turn.
-#[derive(Drop)]
+#[derive(Clone, Copy)]
 pub struct Extent {
     pub w: u16,
     pub h: u16,
 }
 
-#[derive(Drop)]
+#[derive(Clone, Copy)]
 pub struct Vertex {
     pub x: u16,
     pub y: u16,
@@ -31,7 +31,7 @@ pub struct Vertex {
 
 // How a turn reads a vertex: its distances from the corner (x, y) of the bounds that the turn takes to (0, 0), x by its first word (0) or
 // its second (1). Four words of 16 bits, so that one register holds it.
-#[derive(Drop)]
+#[derive(Clone, Copy)]
 pub struct Frame {
     pub turn: u16,
     pub x: u16,
@@ -40,7 +40,7 @@ pub struct Frame {
 }
 
 // An edge, the left end first.
-#[derive(Drop)]
+#[derive(Clone, Copy)]
 pub struct Side {
     pub xl: u16,
     pub yl: u16,

@@ -13,13 +13,13 @@ use tokens::fault::Fault;
 const ROOM: usize = 578;
 
 // The number of an outline's vertices, or what is wrong with it.
-#[derive(Drop)]
+#[derive(Clone, Copy)]
 pub enum Outline {
     Vertices(usize),
     Bad(Fault),
 }
 
-#[derive(Drop)]
+#[derive(Clone, Copy)]
 pub enum Words {
     Are(usize),
     Bad(Fault),

@@ -19,14 +19,14 @@ pub const CLOSE: u8 = 3;
 pub const STEP_BYTES: usize = 9;
 
 // The step at a byte of a path, or nothing: another byte, or coordinates cut short.
-#[derive(Drop)]
+#[derive(Clone, Copy)]
 pub enum Found {
     At(Step),
     Nothing,
 }
 
 // The outline's vertex that a point is, or none: a coordinate is not accepted.
-#[derive(Drop)]
+#[derive(Clone, Copy)]
 pub enum Vertex {
     At(u16, u16),
     Other,

@@ -27,7 +27,7 @@ fn piece_no(sheet: &[u8], v: usize, at: usize) -> u16
     }
 }
 
-#[derive(Drop)]
+#[derive(Clone, Copy)]
 pub enum No {
     Pass,
     At(u16, u16),

@@ -11,28 +11,28 @@ use defs::Position;
 pub const NO_EDGE: u32 = 4294967295;
 
 // A position with its rank: its right edge and its top.
-#[derive(Drop)]
+#[derive(Clone, Copy)]
 pub struct Ranked {
     pub at: Position,
     pub right: u32,
     pub top: u16,
 }
 
-#[derive(Drop)]
+#[derive(Clone, Copy)]
 pub enum Choice {
     Chosen(Ranked),
     Nowhere,
 }
 
 // The turn whose runs were put into the work buffer last, over 3 where none was, and how many they are.
-#[derive(Drop)]
+#[derive(Clone, Copy)]
 pub struct Standing {
     pub turn: u16,
     pub runs: usize,
 }
 
 // The most runs of the turns tried, the best position in them, the tries made, and what stands in the work buffer.
-#[derive(Drop)]
+#[derive(Clone, Copy)]
 pub struct Tried {
     pub most: usize,
     pub best: Choice,

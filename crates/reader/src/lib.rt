@@ -8,7 +8,7 @@ ghost use Rattle.reader.specs.Records.{numbers_at};
 const BEFORE_RECORDS: usize = 10;
 
 // A record's three numbers.
-#[derive(Drop)]
+#[derive(Clone, Copy)]
 pub struct Numbers {
     pub first: u16,
     pub second: u16,
@@ -29,7 +29,7 @@ pub fn record_at(sheet: &[u8], at: usize) -> Numbers
 }
 
 // The reader: it keeps the sheet and its present record.
-#[derive(Drop)]
+#[derive(Clone, Copy)]
 pub struct Reader<'a> {
     pub sheet: &'a [u8],
     pub at: usize,

@@ -13,7 +13,7 @@ use pathsteps::Vertex;
 // "A path is one move, 2 to 63 lines, one close": its vertices.
 pub const LEAST_VERTICES: usize = 3;
 
-#[derive(Drop)]
+#[derive(Clone, Copy)]
 pub enum Shape {
     Vertices(usize),
     Other,

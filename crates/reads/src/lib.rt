@@ -33,7 +33,7 @@ pub fn figures_of(sheet: &[u8]) -> Figures
 }
 
 // The strip that is lent beside the sheet, if one is: the gap that it is to have, and its words.
-#[derive(Drop)]
+#[derive(Clone, Copy)]
 pub enum Strip {
     NotLent,
     Lent(u16, usize),
@@ -60,7 +60,7 @@ fn fourth(strip: Strip, columns: u16) -> bool
 }
 
 // How many pieces passed every question, or the first "no".
-#[derive(Drop)]
+#[derive(Clone, Copy)]
 pub enum Job {
     Pieces(usize),
     No(u16, u16),

@@ -8,7 +8,7 @@ ghost use Rattle.records.specs.Records.{Chains, PieceChains, Gathers};
 
 pub const MOST_PIECES: usize = 200;
 
-#[derive(Drop)]
+#[derive(Clone, Copy)]
 pub enum Chain {
     Whole(usize),
     Broken,

@@ -104,7 +104,7 @@ pub fn edge(o: &[u16], i: usize) -> Side
     outline::side_of(u, v)
 }
 
-#[derive(Drop)]
+#[derive(Clone, Copy)]
 pub enum Later {
     Edge(usize),
     None,

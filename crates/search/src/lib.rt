@@ -9,7 +9,7 @@ ghost use Rattle.search.specs.Searched.{FullBefore, Looks};
 use walk::{Search, TurnWalk};
 
 // How a turn is searched: by the walk, or going round the piece's runs.
-#[derive(Drop)]
+#[derive(Clone, Copy)]
 pub enum Way {
     Walk,
     Round,
@@ -17,7 +17,7 @@ pub enum Way {
 
 // Which right edges count, of a piece of that extent in columns of that resolution: none before `least` is free, and one past `most` may be
 // left out.
-#[derive(Drop)]
+#[derive(Clone, Copy)]
 pub struct Edges {
     pub extent: u16,
     pub resolution: u16,

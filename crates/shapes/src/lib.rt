@@ -13,7 +13,7 @@ use marks::Spot;
 use outline::{Bounds, Frame, Side};
 
 // A vertex of a placed piece, in units.
-#[derive(Drop)]
+#[derive(Clone, Copy)]
 pub struct Point {
     pub x: u32,
     pub y: u32,

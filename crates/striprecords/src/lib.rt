@@ -7,7 +7,7 @@ ghost use Rattle.laws.proofs.Tests.{Decides};
 ghost use Rattle.striprecords.specs.Free.{Sized, LeadsOn, InOrder};
 
 // W, N and Q of a strip.
-#[derive(Drop)]
+#[derive(Clone, Copy)]
 pub struct Shape {
     pub width: usize,
     pub columns: usize,

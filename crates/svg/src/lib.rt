@@ -53,7 +53,7 @@ fn put_digits(out: &mut [u8], at: usize, n: u64, power: u64) -> usize {
 }
 
 // A number as it is written: the whole part, the decimals as a number, and the power of ten of the first of them.
-#[derive(Drop)]
+#[derive(Clone, Copy)]
 struct Decimal {
     whole: u64,
     part: u64,

@@ -1,4 +1,4 @@
--- The table of a well_formed strip's runs holds what the strip holds, and lies within its width.
+-- The table of a well-formed strip's runs holds what the strip holds, and lies within its width.
 -- Assumes nothing.
 use mathlib.Core.Path.{◌≡◌, refl, sym, ap, subst, ◌∙◌}
 use mathlib.Core.Logic.{◌↔◌}

@@ -54,7 +54,7 @@ module _ (s : List ℕ) where
       column = l.0.column;
       some = omega (arith, l.0.low, l.0.high, g.apart.1);
       fits = omega (arith, l.0.high, g.below (x.high - 1) (inl (omega (arith, g.apart.1))));
-      apart = next xs g.apart.2 l.0.Goes-to l.1;
+      apart = next xs g.apart.2 l.0.goes_to l.1;
     },
     record { from = x.high + 1; apart = g.apart.2; below = λ j a. g.below j (inr a) },
   )

@@ -1,4 +1,4 @@
--- A well_formed strip: its runs and its free records are its Q records, its runs are apart, so that its table can be written, and strips
+-- A well-formed strip: its runs and its free records are its Q records, its runs are apart, so that its table can be written, and strips
 -- with the same runs hold the same cells.
 -- Assumes nothing.
 use mathlib.Core.Path.{◌≡◌, refl, sym, ap, ◌∙◌}

@@ -138,7 +138,7 @@ fn grown(n: u64, d: u64) -> u64
     10 * n + d
 }
 
-#[derive(Drop)]
+#[derive(Clone, Copy)]
 pub struct Value {
     pub value: u64,
     pub next: usize,
@@ -163,7 +163,7 @@ fn digits(line: &[u8], at: usize) -> Value
 }
 
 // A number and the place after it.
-#[derive(Drop)]
+#[derive(Clone, Copy)]
 pub enum Number {
     Is(u16, usize),
     Bad(Fault),
@@ -181,7 +181,7 @@ fn whole(line: &[u8], at: usize) -> Number {
     Number::Is(d.value as u16, d.next)
 }
 
-#[derive(Drop)]
+#[derive(Clone, Copy)]
 pub enum Decimals {
     // in thousandths, with the place after them
     Are(u64, usize),
@@ -253,7 +253,7 @@ pub fn next_number(line: &[u8], at: usize, mm: bool) -> Number {
 }
 
 // The two numbers of a vertex, and the first place after it that has no blank.
-#[derive(Drop)]
+#[derive(Clone, Copy)]
 pub enum Vertex {
     Is(u16, u16, usize),
     Bad(Fault),

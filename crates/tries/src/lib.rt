@@ -5,7 +5,7 @@ ghost use Rattle.std.specs.Prelude.{◌≡◌, ◌+◌, ◌-◌, ◌≤◌, ◌<
 ghost use Rattle.tries.specs.Tries.{Column, Tries};
 
 // What one try of a run of the piece says: it is free up to a height, or the next height to try.
-#[derive(Drop)]
+#[derive(Clone, Copy)]
 pub enum Tried {
     Clear(u16),
     Jump(u16),

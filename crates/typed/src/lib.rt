@@ -87,7 +87,7 @@ fn put_number(out: &mut [u8], line: u16) -> usize
 }
 
 // Bytes at the start of the output: of a sheet, with the bytes of the notes on it and the job's gap, or of a message.
-#[derive(Drop)]
+#[derive(Clone, Copy)]
 pub enum Made {
     Sheet(usize, usize, u16),
     Message(usize),

@@ -9,7 +9,7 @@ use defs::Position;
 
 // What a call answers whose tries are told with every answer.
 #[repr(C)]
-#[derive(Drop)]
+#[derive(Clone, Copy)]
 pub struct Tried {
     pub answer: u64,
     pub tries: u32,

@@ -104,7 +104,7 @@ module _ {f l h r : List ℕ} {W N n p : ℕ} (o : List ℕ) (t R g : ℕ) (smal
   abbrev is_free : ℕ → ℕ → Bool
   is_free c y = freeb y piece (there c)
 
-  pub column_steps : {y k : ℕ} {b : Bool} (c : ℕ) → c + wide ≤ N → Steps f l h r N W p tall c y k b → (a : ℕ) → W < a + tall + y →
+  pub column_steps : (c : ℕ) → {y k : ℕ} {b : Bool} → c + wide ≤ N → Steps f l h r N W p tall c y k b → (a : ℕ) → W < a + tall + y →
       (length (heights c a y) ≡ k) × (any (is_free c) (heights c a y) ≡ b)
   unfolding heights_from goes_on any
   column_steps c fits (past y far) zero u = (refl, refl)

@@ -8,34 +8,34 @@ ghost use Rattle.walk.specs.Steps.{WalkedColumn, WalkedTurn};
 
 use tries::Tried;
 
-#[derive(Drop)]
+#[derive(Clone, Copy)]
 pub enum Height {
     Up(u16),
     Full,
 }
 
-#[derive(Drop)]
+#[derive(Clone, Copy)]
 pub enum Spot {
     Found(usize, u16),
     None,
 }
 
 // What the walk of a column answers: its least free height, and the tries.
-#[derive(Drop)]
+#[derive(Clone, Copy)]
 pub struct ColumnWalk {
     pub height: Height,
     pub tries: u32,
 }
 
 // What the walk of a turn answers: its least free position, and the tries.
-#[derive(Drop)]
+#[derive(Clone, Copy)]
 pub struct TurnWalk {
     pub spot: Spot,
     pub tries: u32,
 }
 
 // The figures of a search: columns and width of the table, and the piece's runs, columns and height.
-#[derive(Drop)]
+#[derive(Clone, Copy)]
 pub struct Search {
     pub columns: usize,
     pub width: u16,
@@ -45,7 +45,7 @@ pub struct Search {
 }
 
 // The run to try after a jump, and the greatest height up to which the runs before it stay free.
-#[derive(Drop)]
+#[derive(Clone, Copy)]
 struct Next {
     run: usize,
     stay: u16,

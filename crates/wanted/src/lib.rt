@@ -11,7 +11,7 @@ use decode::Decoded;
 use defs::{Figures, Placing, PlacingTries, Position};
 use search::Way;
 
-#[derive(Drop)]
+#[derive(Clone, Copy)]
 pub enum Wanted {
     Best(u16),
     At(Position),

@@ -1,0 +1,34 @@
+-- Each turn of the loop stores the record of one run more, and the last is stored after it. Assumes nothing.
+use mathlib.Core.Path.{refl}
+use native.Mathlib.Omega.{arith}
+use Prim.Native.Nat.{◌+◌, ◌-◌}
+use Rattle.defs.specs.Computing.Words.{column_words}
+use Rattle.tables.specs.Flat.{rows_from}
+use Rattle.words.proofs.Storing.{storing_start, storing_four, storing_end}
+use Rattle.freerecords.proofs.Words.{column_next, column_last, column_end}
+use Rattle.encode.proofs.put_column.Goals as goal
+
+pub returns-then-from-end : goal.returns-then-from-end
+returns-then-from-end c =
+    let a = c.args in
+    storing_end (column_end a.k (a.from + 1) a.lows.now a.highs.now a.from a.end (omega arith))
+    (storing_start a.strip.now a.at (column_words a.k (a.from + 1) (rows_from a.lows.now a.highs.now a.from (a.end - a.from))))
+
+pub loop-i-preserved : goal.loop-i-preserved
+loop-i-preserved c =
+    let a = c.args in
+    let l = c.loop-i in
+    let w = l.invariant in (
+      omega (arith, w.0),
+      omega arith,
+      omega (arith, w.2),
+      storing_four {d = l.i + 2} c.put_four.ensures (omega arith)
+          (column_next a.k a.lows.now a.highs.now l.i a.end (omega arith)) w.3,
+    )
+
+pub returns : goal.returns
+returns c =
+    let a = c.args in
+    let l = c.loop-i in
+    storing_end refl (storing_four c.put_four-2.ensures refl
+    (column_last a.k a.lows.now a.highs.now l.i a.end (omega arith)) l.invariant.3)

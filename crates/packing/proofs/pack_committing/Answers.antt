@@ -1,0 +1,9 @@
+-- Each case of the answer is packed by its own numbers. Assumes nothing.
+use Rattle.packing.proofs.Bits.{no_value, refused}
+use Rattle.packing.proofs.pack_committing.Goals as goal
+
+pub returns-in-Committed : goal.returns-in-Committed
+returns-in-Committed c = rw c.in-Committed.is no_value
+
+pub returns-in-Refused : goal.returns-in-Refused
+returns-in-Refused c = rw c.in-Refused.is (refused c.pack_refusal.ensures)

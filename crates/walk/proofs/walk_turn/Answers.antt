@@ -1,0 +1,44 @@
+-- `walk_turn` meets its contract: no column before the one that is tried has a free height, and its tries are counted.
+-- Assumes nothing.
+use mathlib.Core.Logic.{inl, inr}
+use native.Mathlib.Omega.{arith}
+use Prim.Native.Nat.{◌-◌}
+use Rattle.walk.proofs.Counts.{turn_start, turn_more, turn_found, turn_end, none_walked}
+use Rattle.walk.proofs.walk_turn.Goals as goal
+
+pub returns-then-s : goal.returns-then-s
+returns-then-s c = none_walked (inl c.if-s.true) c.untried.ensures
+
+pub returns-then-n-w : goal.returns-then-n-w
+returns-then-n-w c = none_walked (inr c.if-n-w.true) c.untried-then-n-w.ensures
+
+pub loop-c-init : goal.loop-c-init
+loop-c-init c = turn_start _ _ _ _ _ _ _ _ _
+
+pub overflow_add-tries : goal.overflow_add-tries
+overflow_add-tries c = omega (arith, c.loop-c.invariant.few, c.walk_column-x.ensures.few)
+
+pub returns-in-Up : goal.returns-in-Up
+returns-in-Up c =
+    let inv = c.loop-c.invariant in
+    let x = c.walk_column-x.ensures in
+    record {
+      spot = record { fits = omega arith; height = rw c.in-Up.is at x.height; least = inv.left.none };
+      steps = turn_found inv (omega arith) (rw c.in-Up.is at x.steps);
+      few = omega (arith, inv.few, x.few);
+    }
+
+pub loop-c-preserved : goal.loop-c-preserved
+loop-c-preserved c =
+    let inv = c.loop-c.invariant in
+    let x = c.walk_column-x.ensures in
+    turn_more inv (omega arith) (rw c.in-Full.is at x.height) (rw c.in-Full.is at x.steps) x.few
+
+pub returns : goal.returns
+returns c =
+    let inv = c.loop-c.invariant in
+    record {
+      spot = λ x e. inv.left.none x (omega arith);
+      steps = turn_end inv (omega arith);
+      few = omega (arith, inv.few, inv.within);
+    }
