@@ -2,7 +2,7 @@
 #![tactic(auto)]
 
 use defs::Laying;
-use libc::{STDIN_FILENO, STDOUT_FILENO};
+use std::io;
 
 // The lay call, of which only the answer is used here.
 fn lay(sheet: &[u8], gap: u16, strip: &mut [u16], entries: &mut [u16], work: &mut [u16]) -> Laying {
@@ -34,18 +34,18 @@ fn draw(input: &[u8], out: &mut [u8]) -> usize {
     draw_sheet(&input[from..], f.gap, out)
 }
 
-fn run(input: &mut [u8], output: &mut [u8]) {
-    let n = io::read_full(STDIN_FILENO, input);
+fn run(rt: &HostRuntime, input: &mut [u8], output: &mut [u8]) -> io::Result<()> {
+    let n = streams::read_full(&mut rt.stdin(), input)?;
     let r = draw(&input[..n], output);
     if r < output.len() {
-        io::write_all(STDOUT_FILENO, &output[..r]);
+        rt.write_all(&output[..r])
     } else {
-        io::write_all(STDOUT_FILENO, b"the picture is too long\n");
+        rt.write_all(b"the picture is too long\n")
     }
 }
 
-fn main() {
+fn main(rt: HostRuntime) -> io::Result<()> {
     let mut input = [0u8; gapline::INPUT];
     let mut output = [0u8; drawing::ROOM];
-    run(&mut input, &mut output);
+    run(&rt, &mut input, &mut output)
 }

@@ -8,6 +8,7 @@ ghost use Rattle.pathfile.specs.Within.{Within};
 
 use gapline::Gap;
 use pathfile::Outline;
+use std::fs::Files;
 use tokens::fault::Fault;
 use tokens::{Number, Vertex, fault};
 
@@ -149,7 +150,8 @@ fn vertices(line: &[u8], at: usize, mm: bool, list: &mut [u16], to: usize) -> Ou
 }
 
 // The vertices of a piece, typed or in a file, from place `to` of the list.
-fn piece_vertices(
+fn piece_vertices<R: Files>(
+    rt: &R,
     line: &[u8],
     at: usize,
     typed: bool,
@@ -163,7 +165,7 @@ fn piece_vertices(
     if typed {
         return vertices(line, at, mm, list, to);
     }
-    pathfile::put_outline(line, at, list, to)
+    pathfile::put_outline(rt, line, at, list, to)
 }
 
 // The count and the mask of a piece before its vertices, which are at the end of the list.
@@ -182,18 +184,33 @@ fn add_piece(job: Job, list: &mut [u16], count: usize, mask: u16) -> Line
 }
 
 // The vertices of a piece of this mask.
-fn outline_line(line: &[u8], at: usize, typed: bool, mask: u16, job: Job, list: &mut [u16]) -> Line
+fn outline_line<R: Files>(
+    rt: &R,
+    line: &[u8],
+    at: usize,
+    typed: bool,
+    mask: u16,
+    job: Job,
+    list: &mut [u16],
+) -> Line
     requires fact_1 { job.words + 130 ≤ length list.old }
     requires fact_2 { job.pieces < 200 }
 {
-    match piece_vertices(line, at, typed, job.mm, list, job.words + 2) {
+    match piece_vertices(rt, line, at, typed, job.mm, list, job.words + 2) {
         Outline::Vertices(n) => add_piece(job, list, n, mask),
         Outline::Bad(f) => Line::Bad(f),
     }
 }
 
 // Mask and vertices.
-fn piece_line(line: &[u8], at: usize, typed: bool, job: Job, list: &mut [u16]) -> Line
+fn piece_line<R: Files>(
+    rt: &R,
+    line: &[u8],
+    at: usize,
+    typed: bool,
+    job: Job,
+    list: &mut [u16],
+) -> Line
     requires { 130 ≤ length list.old }
 {
     if job.strip == 0 {
@@ -207,7 +224,7 @@ fn piece_line(line: &[u8], at: usize, typed: bool, job: Job, list: &mut [u16]) -
         return Line::Bad(fault::PIECES);
     }
     match tokens::next_number(line, at, false) {
-        Number::Is(mask, next) => outline_line(line, next, typed, mask, job, list),
+        Number::Is(mask, next) => outline_line(rt, line, next, typed, mask, job, list),
         Number::Bad(f) => Line::Bad(f),
     }
 }
@@ -243,7 +260,7 @@ fn kind_of(word: &[u8]) -> Kind {
 }
 
 // A line without its comment.
-fn bare_line(line: &[u8], job: Job, list: &mut [u16]) -> Line
+fn bare_line<R: Files>(rt: &R, line: &[u8], job: Job, list: &mut [u16]) -> Line
     requires { 130 ≤ length list.old }
 {
     let a = tokens::skip_blanks(line, 0);
@@ -253,8 +270,8 @@ fn bare_line(line: &[u8], job: Job, list: &mut [u16]) -> Line
     let e = tokens::word_end(line, a);
     match kind_of(&line[a..e]) {
         Kind::Strip => strip_line(line, e, job),
-        Kind::Piece => piece_line(line, e, true, job, list),
-        Kind::Path => piece_line(line, e, false, job, list),
+        Kind::Piece => piece_line(rt, line, e, true, job, list),
+        Kind::Path => piece_line(rt, line, e, false, job, list),
         Kind::Gap => gap_line(line, e, job),
         Kind::Mm => mm_line(line, e, job),
         Kind::Other => Line::Bad(fault::WORD),
@@ -262,11 +279,18 @@ fn bare_line(line: &[u8], job: Job, list: &mut [u16]) -> Line
 }
 
 // The line of the text from place `at` to place `end`.
-fn text_line(text: &[u8], at: usize, end: usize, job: Job, list: &mut [u16]) -> Line
+fn text_line<R: Files>(
+    rt: &R,
+    text: &[u8],
+    at: usize,
+    end: usize,
+    job: Job,
+    list: &mut [u16],
+) -> Line
     requires { (at ≤ end) × ((end ≤ length text.now) × (130 ≤ length list.old)) }
 {
     let c = tokens::comment(text, at, end);
-    bare_line(&text[at..c], job, list)
+    bare_line(rt, &text[at..c], job, list)
 }
 
 #[derive(Clone, Copy)]
@@ -307,7 +331,7 @@ fn keep_line(lines: &mut [u16], job: Job) {
     }
 }
 
-fn text_lines(text: &[u8], list: &mut [u16], lines: &mut [u16]) -> Text
+fn text_lines<R: Files>(rt: &R, text: &[u8], list: &mut [u16], lines: &mut [u16]) -> Text
     requires { 130 ≤ length list.old }
 {
     let mut at: usize = 0;
@@ -319,7 +343,7 @@ fn text_lines(text: &[u8], list: &mut [u16], lines: &mut [u16]) -> Text
         job.line += 1;
         keep_line(lines, job);
         let e = tokens::line_end(text, at);
-        match text_line(text, at, e, job, list) {
+        match text_line(rt, text, at, e, job, list) {
             Line::Good(j) => {
                 job = j;
             }
@@ -333,11 +357,11 @@ fn text_lines(text: &[u8], list: &mut [u16], lines: &mut [u16]) -> Text
 }
 
 // What a text says. Its pieces go into the list from place 1 on, the numbers of their lines into `lines`.
-pub fn read_text(text: &[u8], list: &mut [u16], lines: &mut [u16]) -> Text
+pub fn read_text<R: Files>(rt: &R, text: &[u8], list: &mut [u16], lines: &mut [u16]) -> Text
     requires { 130 ≤ length list.old }
 {
     if MOST_TEXT < text.len() {
         return Text::Bad(fault::LONG, 0);
     }
-    text_lines(text, list, lines)
+    text_lines(rt, text, list, lines)
 }

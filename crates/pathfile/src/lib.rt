@@ -2,10 +2,11 @@
 #![tactic(auto)]
 
 ghost use Rattle.std.specs.Prelude.{◌+◌, ◌≤◌, length};
-ghost use Rattle.io.specs.Counts.{IsPrefixLen};
 ghost use Rattle.pathfile.specs.Within.{Within, Fit};
 
 use pathdefs::PathReading;
+use std::fs;
+use std::fs::Files;
 use tokens::fault;
 use tokens::fault::Fault;
 
@@ -59,24 +60,24 @@ fn put_path(path: &[u8], list: &mut [u16], to: usize) -> Outline
 }
 
 // The first bytes of the file with this name, and their number: 0 also where it cannot be read.
-fn file_bytes(name: &[u8], bytes: &mut [u8]) -> usize
-    ensures { IsPrefixLen result bytes.new }
+fn file_bytes<R: Files>(rt: &R, name: &[u8], bytes: &mut [u8]) -> usize
+    ensures { result ≤ length bytes.new }
 {
-    let file = os::open_read(name);
-    if file < 0 {
+    let Ok(path) = std::str::from_utf8(name) else {
         return 0;
+    };
+    match fs::open(rt, path) {
+        Ok(mut file) => streams::read_full(&mut file, bytes).unwrap_or(0),
+        Err(_) => 0,
     }
-    let n = io::read_full(file, bytes);
-    libc::close(file);
-    n
 }
 
-fn put_named(name: &[u8], list: &mut [u16], to: usize) -> Outline
+fn put_named<R: Files>(rt: &R, name: &[u8], list: &mut [u16], to: usize) -> Outline
     requires { to + 128 ≤ length list.old }
     ensures { Within result }
 {
     let mut bytes = [0u8; ROOM];
-    let n = file_bytes(name, &mut bytes);
+    let n = file_bytes(rt, name, &mut bytes);
     if n == 0 {
         return Outline::Bad(fault::UNREAD);
     }
@@ -84,7 +85,13 @@ fn put_named(name: &[u8], list: &mut [u16], to: usize) -> Outline
 }
 
 // The outline of the path in the file that the rest of a line names, from place `to` of the list. A name may have blanks inside.
-pub fn put_outline(line: &[u8], at: usize, list: &mut [u16], to: usize) -> Outline
+pub fn put_outline<R: Files>(
+    rt: &R,
+    line: &[u8],
+    at: usize,
+    list: &mut [u16],
+    to: usize,
+) -> Outline
     requires { to + 128 ≤ length list.old }
     ensures { Within result }
 {
@@ -93,5 +100,5 @@ pub fn put_outline(line: &[u8], at: usize, list: &mut [u16], to: usize) -> Outli
     if e <= a {
         return Outline::Bad(fault::NAME);
     }
-    put_named(&line[a..e], list, to)
+    put_named(rt, &line[a..e], list, to)
 }

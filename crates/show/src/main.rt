@@ -1,16 +1,16 @@
 // Program `show`: prints the sheet on standard input, with or without a gap in front of it, as text.
 #![tactic(auto)]
 
-use libc::{STDIN_FILENO, STDOUT_FILENO};
+use std::io;
 
-fn run(input: &mut [u8], output: &mut [u8]) {
-    let n = io::read_full(STDIN_FILENO, input);
+fn run(rt: &HostRuntime, input: &mut [u8], output: &mut [u8]) -> io::Result<()> {
+    let n = streams::read_full(&mut rt.stdin(), input)?;
     let r = readable::show_text(&input[..n], output);
-    io::write_all(STDOUT_FILENO, &output[..r]);
+    rt.write_all(&output[..r])
 }
 
-fn main() {
+fn main(rt: HostRuntime) -> io::Result<()> {
     let mut input = [0u8; gapline::INPUT];
     let mut output = [0u8; readable::TEXT_ROOM];
-    run(&mut input, &mut output);
+    run(&rt, &mut input, &mut output)
 }

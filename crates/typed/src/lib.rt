@@ -6,6 +6,7 @@ ghost use Rattle.typed.specs.Fits.{Fits};
 
 use defs::{Refusal, Writing};
 use lines::{Job, Text};
+use std::fs::Files;
 use tokens::fault::Fault;
 
 // The place of line n of the text, counted from 0, else the end of the text.
@@ -177,7 +178,8 @@ fn sheet_of_job(job: Job, list: &mut [u16], lines: &[u16], out: &mut [u8], notes
     }
 }
 
-fn sheet_lent(
+fn sheet_lent<R: Files>(
+    rt: &R,
     text: &[u8],
     list: &mut [u16],
     lines: &mut [u16],
@@ -188,14 +190,14 @@ fn sheet_lent(
     requires fact_2 { 128 ≤ length out.old }
     ensures { Fits result (length out.new) (length notes.new) }
 {
-    match lines::read_text(text, list, lines) {
+    match lines::read_text(rt, text, list, lines) {
         Text::Good(job) => sheet_of_job(job, list, lines, out, notes),
         Text::Bad(f, line) => put_message(out, f, line),
     }
 }
 
 // The sheet of a text with notes on its pieces, or a message.
-pub fn sheet_of(text: &[u8], out: &mut [u8], notes: &mut [u8]) -> Made
+pub fn sheet_of<R: Files>(rt: &R, text: &[u8], out: &mut [u8], notes: &mut [u8]) -> Made
     ensures { Fits result (length out.new) (length notes.new) }
 {
     if out.len() < print::MESSAGE_ROOM {
@@ -203,5 +205,5 @@ pub fn sheet_of(text: &[u8], out: &mut [u8], notes: &mut [u8]) -> Made
     }
     let mut list = [0u16; numbers::LIST_WORDS];
     let mut lines = [0u16; records::MOST_PIECES];
-    sheet_lent(text, &mut list, &mut lines, out, notes)
+    sheet_lent(rt, text, &mut list, &mut lines, out, notes)
 }

@@ -1,0 +1,17 @@
+-- `column` meets its contract: the runs hold the rows covered from `from` to `to`, and the slab looked at last is kept.
+-- The loop's invariant is the same for the columns from `from` to a: a part of a neat slab is neat, so its rows are those of its unit
+-- columns. Assumes nothing.
+use mathlib.Core.Path.{◌≡◌}
+use Prim.Native.Nat.{◌≤◌, ◌-◌}
+use lib.ListN.{length}
+use Rattle.defs.specs.Meaning.Turn.{turned}
+use Rattle.geom.specs.Units.{InUnits}
+use Rattle.gaps.specs.Gaps.{Adds}
+use Rattle.column.specs.Rows.{Working}
+use Rattle.column.proofs.column.Given as goal
+
+abbrev pub invariant-loop-a : goal.invariant-loop-a
+invariant-loop-a l = (l.from ≤ l.a) × (l.a ≤ l.to) × Working (turned l.o l.f.turn) l.k.start l.k.end l.k.count l.k.cut l.h0 l.h1 l.w l.g0 l.g1 l.lows l.highs × (length l.lows ≡ length l.initial.lows) × (length l.highs ≡ length l.initial.highs) × Adds (InUnits (turned l.o l.f.turn) l.from l.a) l.initial.lows l.initial.highs l.lows l.highs 0 l.n
+
+abbrev pub decreases-loop-a : goal.decreases-loop-a
+decreases-loop-a l = l.to - l.a

@@ -1,0 +1,21 @@
+-- Two words and two for each vertex of the chain. Assumes nothing.
+use mathlib.Core.Path.{ap}
+use native.Mathlib.Omega.{arith}
+use Rattle.reader.specs.declared.Numbers.{Numbers}
+use Rattle.cutlist.proofs.Words.{ends_few, not_broken, piece_counted}
+use Rattle.cutlist.proofs.piece_words.Goals as goal
+
+pub overflow_mul-result : goal.overflow_mul-result
+overflow_mul-result c = let g = rw c.in-Whole.is at c.follow.ensures in omega (arith, ends_few g)
+
+pub overflow_add-result : goal.overflow_add-result
+overflow_add-result c = let g = rw c.in-Whole.is at c.follow.ensures in omega (arith, ends_few g)
+
+pub returns-in-Whole : goal.returns-in-Whole
+returns-in-Whole c =
+    piece_counted _ _ c.requires.fact_1 (ap (λ (n : Numbers). n.first) c.visit-piece.ensures) c.requires.fact_2
+    (rw c.in-Whole.is at c.follow.ensures)
+
+pub returns-in-Broken : goal.returns-in-Broken
+returns-in-Broken c =
+    absurd (not_broken _ _ c.requires.fact_1 (ap (λ (n : Numbers). n.first) c.visit-piece.ensures) c.requires.fact_2 (rw c.in-Broken.is at c.follow.ensures))

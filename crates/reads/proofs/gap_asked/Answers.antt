@@ -1,0 +1,6 @@
+-- 21, where a strip is lent. Assumes nothing.
+use mathlib.Core.Path.{sym, ◌∙◌}
+use Rattle.reads.proofs.gap_asked.Goals as goal
+
+pub returns-in-Lent : goal.returns-in-Lent
+returns-in-Lent c = c.gap_fits.ensures ∙ sym (rw c.in-Lent.is)

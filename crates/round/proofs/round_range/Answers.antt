@@ -1,0 +1,39 @@
+-- `round_range` meets its contract: no column of the range before the one that is tried has a free height.
+-- Assumes nothing.
+use native.Mathlib.Omega.{arith}
+use Prim.Native.Nat.{◌-◌}
+use Rattle.round.proofs.Ranges.{full_none, full_more}
+use Rattle.round.proofs.round_range.Goals as goal
+
+pub returns-then-s : goal.returns-then-s
+returns-then-s c = λ x a b e. record { none = λ z u. absurd (omega arith) }
+
+pub loop-c-init : goal.loop-c-init
+loop-c-init c = (full_none _ _ _ _ _ _ _ _ _, omega arith)
+
+pub round_column-requires : goal.round_column-requires
+round_column-requires c = let pre = c.requires in
+    record {
+      fact_1 = pre.fact_1;
+      fact_2 = (omega (arith, c.range_end-end.ensures), omega arith, pre.fact_2, c.loop-c.invariant.1);
+    }
+
+pub returns-in-Up : goal.returns-in-Up
+returns-in-Up c =
+    let g = c.loop-c.invariant.0 in
+    let end = c.range_end-end.ensures in
+    record {
+      at_least = g.start;
+      below = omega (arith, end);
+      fits = omega (arith, end);
+      height = rw c.in-Up.is at c.round_column.ensures;
+      least = λ b u v. g.none b v u;
+    }
+
+pub loop-c-preserved : goal.loop-c-preserved
+loop-c-preserved c =
+    let stop = rw c.in-Full.is at c.round_column.ensures in
+    (full_more c.loop-c.invariant.0 stop.none, omega (arith, stop.among))
+
+pub returns : goal.returns
+returns c = λ x a b e. c.loop-c.invariant.0.none x (omega (arith, c.range_end-end.ensures)) a

@@ -1,0 +1,11 @@
+-- The call that writes a path: questions 7 and 8, and then the rest. Assumes nothing.
+use mathlib.Core.Path.{refl}
+use Rattle.checks.proofs.Bounded.{passed}
+use Rattle.writepath.proofs.Outputs.{refused_no}
+use Rattle.writepath.proofs.write_path.Goals as goal
+
+pub write_passed-requires : goal.write_passed-requires
+write_passed-requires c = let p = rw c.in-Passes.is at c.bounds.ensures in passed _ p.0
+
+pub returns-in-No : goal.returns-in-No
+returns-in-No c = let p = rw c.in-No.is at c.bounds.ensures in refused_no _ _ p.0 p.1 c.refused.ensures refl
