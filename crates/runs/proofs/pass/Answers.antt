@@ -1,7 +1,6 @@
 -- `pass` meets its contract: the words before i are not above v.
 -- Assumes nothing.
 use native.Mathlib.Omega.{arith}
-use Prim.Native.Nat.{◌-◌}
 use borrow.Author.Count.{below_more}
 use borrow.Author.Rules.{rules}
 use Rattle.runs.proofs.pass.Goals as goal

@@ -1,6 +1,5 @@
 -- `shift_down` meets its contract: the words b to j - 1 stand at a, and those from i on are not yet moved.
 -- Assumes nothing.
-use Prim.Native.Nat.{◌-◌}
 use mathlib.Core.Path.{◌≡◌}
 use native.Mathlib.Omega.{arith}
 use Rattle.runs.proofs.Shifts.{down_none, down_more}

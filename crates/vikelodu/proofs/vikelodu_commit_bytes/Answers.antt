@@ -1,0 +1,12 @@
+-- The answer of the call, packed. Assumes nothing.
+use Rattle.vikelodu.proofs.vikelodu_commit_bytes.Goals as goal
+
+pub returns : goal.returns
+returns c =
+    let e = c.commit_bytes-a.ensures in
+    record {
+      words = _;
+      strip_left = e.strip_left;
+      work_left = e.work_left;
+      step = record { answer = _; step = e.step; packs = c.pack_committing.ensures };
+    }

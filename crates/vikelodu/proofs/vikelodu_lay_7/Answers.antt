@@ -1,0 +1,5 @@
+-- The answer of the call, packed. Assumes nothing.
+use Rattle.vikelodu.proofs.vikelodu_lay_7.Goals as goal
+
+pub returns : goal.returns
+returns c = record { answer = _; step = c.lay-a.ensures; packs = c.pack_laying.ensures }
