@@ -6,7 +6,7 @@ use mathlib.Core.List.{List}
 use Prim.Native.Nat.{ℕ, zero, suc, ◌+◌, ◌≤◌, ◌<◌}
 use native.Mathlib.Omega.{arith}
 use borrow.Author.Count.{below_more}
-use Rattle.defs.specs.Meaning.Strip.{columns_of, first_of, column_of, next_of, Chained, here, further, Ends, zero_ends, goes_on, gap_of}
+use Rattle.defs.specs.Meaning.Strip.{columns_of, first_of, column_of, next_of, Chained, here, further, Ends, zero_ends, goes_on}
 use Rattle.defs.specs.Meaning.Strip.{InColumn, IsFree, InOneChain, WellFormed}
 use Rattle.defs.specs.Meaning.Question.{Question5}
 use Rattle.chains.specs.Form.{rec_at, Within, ChainOf, Counted, Place, Formed}

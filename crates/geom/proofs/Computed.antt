@@ -10,14 +10,14 @@ use native.Mathlib.Omega.{arith}
 use native.Mathlib.Nat.{mul-lt-mul_of_pos_right, lt_of_mul-lt-mul_right}
 use lib.Dec.{ltb, leb, eqb}
 use borrow.Author.Tests.{lt-ltb, le-leb, leb-true, ltb-true, eqb-true, eq-eqb}
-use Rattle.defs.specs.Meaning.Outline.{edge_at, sides, spans, height, count_to, Ordered, KeepsOrder}
+use Rattle.defs.specs.Meaning.Outline.{edge_at, sides, spans, count_to, Ordered, KeepsOrder}
 use Rattle.defs.specs.Meaning.Cell.{Covered, CoveredGap}
-use Rattle.defs.specs.Computing.Test.{any_to, all_to}
+use Rattle.defs.specs.Computing.Test.{any_to}
 use Rattle.defs.specs.Computing.Cells.{higher, not_higher, reaches, rises, open_above, opens, unitsb, raisedb, coveredb}
 use Rattle.geom.proofs.Strip.{lt_or_le}
 use Rattle.geom.proofs.Parity.{count_same}
 use Rattle.laws.proofs.Tests.{Decides, and_left, and_right, and_both, all_to_at, all_to_of, any_to_at, any_to_of}
-use Rattle.geom.proofs.Column.{Top, topmost, count_split, Met, mid, rank, not_lower, mid_trans, mid_irr}
+use Rattle.geom.proofs.Column.{Top, topmost, count_split, Met, not_lower, mid_trans, mid_irr}
 use Rattle.geom.proofs.Cover.{S, H0, H1, W, positive, in_order, even, cover, meet}
 use Rattle.geom.specs.Units.{InUnits, Raised}
 use Rattle.geom.proofs.Windows.{gap_rows}

@@ -6,13 +6,11 @@ use mathlib.Core.List.{List}
 use Prim.Native.Nat.{ℕ, zero, suc, ◌+◌, ◌*◌, ◌-◌, ◌/◌, ◌%◌, ◌≤◌, ◌<◌}
 use native.Mathlib.Omega.{arith}
 use native.Mathlib.Nat.{mul-le-mul_right, add-mul-mod_self_right, div-add-mod, mod-lt, lt_of_mul-lt-mul_right}
-use lib.Dec.{ltb, leb}
+use lib.Dec.{leb}
 use borrow.Author.Tests.{ltb-true, leb-true}
 use Rattle.laws.proofs.Tests.{and_left, and_right, Some}
 use Rattle.defs.specs.Meaning.Outline.{Edge, edge_at, sides, spans, width, height, passes_below, passes_through, one, count_to, count_below, Inside}
-use Rattle.defs.specs.Meaning.Turn.{turned}
 use Rattle.defs.specs.Meaning.Cell.{Covered}
-use Rattle.defs.specs.Meaning.Placing.{moved}
 use Rattle.geom.proofs.Parity.{count_same}
 use Rattle.geom.proofs.Shift.{shift_edge, shifted, sides_shifted, edge_shifted, below_shift, through_shift}
 

@@ -1,7 +1,7 @@
 -- Where one turn is given, its mask is 2 ^ t: that turn is the only one allowed, so questions 10 to 12 ask of it alone.
 -- Assumes nothing.
 use mathlib.Core.Path.{◌≡◌, ap}
-use mathlib.Core.Bool.{true, and-true}
+use mathlib.Core.Bool.{and-true}
 use mathlib.Core.List.{List}
 use Prim.Native.Nat.{ℕ, zero, suc, ◌*◌, ◌^◌, ◌≤◌}
 use native.Mathlib.Omega.{arith}

@@ -7,7 +7,6 @@ use Prim.Native.Nat.{ℕ, ◌+◌, ◌*◌, ◌-◌, ◌/◌, ◌≤◌, ◌<◌
 use native.Mathlib.Omega.{arith}
 use native.Mathlib.Nat.{mul-le-mul_right, add-mul-div_right, div-add-mod, mod-lt}
 use lib.Dec.{ltb, leb, eqb}
-use lib.ListN.{length}
 use borrow.Author.Tests.{lt-ltb, le-ltb, le-leb, lt-leb, ltb-true, ltb-false, leb-true, leb-false, eqb-true, eqb-false, ne_eqb, eq-eqb}
 use Rattle.laws.proofs.Tests.{and_left, and_right}
 use Rattle.defs.specs.Meaning.Outline.{Edge, edge_at, edge_between, after, vx, vy, sides, spans, width, height, passes_below, passes_through}

@@ -3,13 +3,13 @@
 -- Assumes nothing.
 use mathlib.Core.List.{List}
 use mathlib.Core.Logic.{◌↔◌}
-use mathlib.Core.Path.{◌≡◌, subst, sym}
-use Prim.Native.Nat.{ℕ, ◌+◌, ◌*◌, ◌-◌, ◌/◌, ◌≤◌, ◌<◌, max}
+use mathlib.Core.Path.{◌≡◌, subst}
+use Prim.Native.Nat.{ℕ, ◌+◌, ◌*◌, ◌-◌, ◌/◌, ◌≤◌, max}
 use native.Mathlib.Omega.{arith}
 use native.Mathlib.Nat.{div-add-mod, mod-lt}
 use Rattle.defs.specs.Meaning.Cell.{Covered}
 use Rattle.geom.proofs.Cells.{narrow, widen}
-use Rattle.defs.specs.Meaning.Cell.{UnitCovered, CoveredGap}
+use Rattle.defs.specs.Meaning.Cell.{CoveredGap}
 use Rattle.geom.specs.Units.{InUnits, Raised}
 
 -- a cell of document 01 is covered exactly when one of its unit columns is

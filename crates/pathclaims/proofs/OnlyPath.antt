@@ -1,7 +1,7 @@
 -- A path that gives an outline, without the sign, has the bytes that writing the outline gives. Assumes nothing.
 use mathlib.Core.Path.{◌≡◌, refl, sym, ap, ◌∙◌}
 use mathlib.Core.List.{List, [], ◌∷◌, ◌++◌}
-use Prim.Native.Nat.{ℕ, ◌+◌, ◌/◌, ◌%◌, ◌<◌}
+use Prim.Native.Nat.{ℕ, ◌/◌, ◌%◌, ◌<◌}
 use native.Mathlib.Omega.{arith}
 use Rattle.pathdefs.specs.Meaning.Path.{bits_of, sign_of, Accepted, Pair, move, Steps, the_end, a_move, a_line, a_close, lines_then_close, Units, no_more, vertex, PathGives, Unsigned}
 use Rattle.pathdefs.specs.Computing.Paths.{written_bits, four_bytes, vertex_bytes, lines_bytes, path_bytes}

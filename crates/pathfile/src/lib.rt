@@ -85,13 +85,7 @@ fn put_named<R: Files>(rt: &R, name: &[u8], list: &mut [u16], to: usize) -> Outl
 }
 
 // The outline of the path in the file that the rest of a line names, from place `to` of the list. A name may have blanks inside.
-pub fn put_outline<R: Files>(
-    rt: &R,
-    line: &[u8],
-    at: usize,
-    list: &mut [u16],
-    to: usize,
-) -> Outline
+pub fn put_outline<R: Files>(rt: &R, line: &[u8], at: usize, list: &mut [u16], to: usize) -> Outline
     requires { to + 128 ≤ length list.old }
     ensures { Within result }
 {

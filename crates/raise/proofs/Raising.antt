@@ -2,7 +2,7 @@
 -- Assumes nothing.
 use mathlib.Core.Path.{◌≡◌, refl, ap, subst, ◌∙◌}
 use mathlib.Core.List.{List}
-use mathlib.Core.Logic.{◌↔◌, ◌⊎◌, inl, inr, ⊎_elim}
+use mathlib.Core.Logic.{◌↔◌, ◌⊎◌, inl, inr}
 use Prim.Native.Nat.{ℕ, ◌+◌, ◌-◌, ◌≤◌, ◌<◌}
 use native.Mathlib.Omega.{arith}
 use native.Mathlib.Decide.{dec_lt}
@@ -10,7 +10,7 @@ use lib.ListN.{length, get_or, set, length-set}
 use lib.Seq.{get_or-set_same, get_or-set_other}
 use Rattle.join.specs.Runs.{Apart, Holds}
 use Rattle.geom.specs.Units.{Raised}
-use Rattle.raise.specs.Raises.{Joins, Follows, Puts, Raises}
+use Rattle.raise.specs.Raises.{Puts, Raises}
 
 -- nothing to raise by
 pub raised_by_none : {l h : List ℕ} {n g : ℕ} → g ≡ 0 → Apart l h n → Raises l h n g l h n

@@ -1,6 +1,5 @@
 -- What a search finds, and which columns it may leave out. Assumes nothing.
 use Rattle.std.specs.Prelude.{List, ℕ, ◌+◌, ◌≤◌, ◌<◌}
-use Rattle.std.proofs.Math.Option.{none}
 use Rattle.walk.specs.Free.{FirstSpot, NoHeight}
 use Rattle.walk.specs.Steps.{TurnSteps}
 use Rattle.walk.specs.declared.TurnWalk.{TurnWalk}

@@ -16,12 +16,7 @@ fn write_gap(rt: &HostRuntime, gap: u16) -> io::Result<()> {
     rt.write_all(&line[..n])
 }
 
-fn run(
-    rt: &HostRuntime,
-    input: &mut [u8],
-    output: &mut [u8],
-    notes: &mut [u8],
-) -> io::Result<()> {
+fn run(rt: &HostRuntime, input: &mut [u8], output: &mut [u8], notes: &mut [u8]) -> io::Result<()> {
     let n = streams::read_full(&mut rt.stdin(), input)?;
     match typed::sheet_of(rt, &input[..n], output, notes) {
         Made::Sheet(r, m, gap) => {

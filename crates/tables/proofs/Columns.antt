@@ -8,7 +8,6 @@ use lib.ListN.{length, get_or}
 use Rattle.laws.proofs.Lists.{list_from_at, list_from_past}
 use Rattle.defs.specs.declared.Position.{Position}
 use Rattle.defs.specs.Meaning.Strip.{columns_of}
-use Rattle.defs.specs.Computing.Test.{list_from}
 use Rattle.defs.specs.Computing.Cells.{Rows}
 use Rattle.defs.specs.Computing.Search.{entered_from, entered}
 use Rattle.defs.specs.Computing.Words.{runs_of, columns_runs}

@@ -4,7 +4,7 @@ use mathlib.Core.Path.{◌≡◌, refl, sym, ap, subst, ◌∙◌}
 use mathlib.Core.Logic.{◌↔◌}
 use mathlib.Core.Bool.{Bool, true, false, cond, ◌&&◌, ◌||◌, false≢true}
 use mathlib.Core.List.{List, [], ◌∷◌}
-use Prim.Native.Nat.{ℕ, zero, suc, ◌+◌, ◌≤◌, ◌<◌}
+use Prim.Native.Nat.{ℕ, suc, ◌+◌, ◌≤◌, ◌<◌}
 use native.Mathlib.Omega.{arith}
 use native.Mathlib.Decide.{dec_lt}
 use lib.Dec.{leb, ltb, eqb}
@@ -12,11 +12,11 @@ use lib.ListN.{length, get_or}
 use Rattle.geom.proofs.Stretches.{Valid, no_rows}
 use Rattle.laws.proofs.Lists.{length-list_from}
 use Rattle.defs.specs.Meaning.Strip.{width_of, columns_of, first_of, low_of, high_of, next_of, Holds}
-use Rattle.defs.specs.Computing.Test.{any, list_from, chain_by}
+use Rattle.defs.specs.Computing.Test.{any, chain_by}
 use Rattle.defs.specs.Computing.Cells.{Rows, in_rows}
 use Rattle.defs.specs.Computing.Words.{records_of, occurrences, well_formedb, rows_of, runs_of, columns_runs}
 use borrow.Author.Tests.{leb-true, ltb-true, eqb-true, le-leb}
-use Rattle.laws.proofs.Tests.{and_left, and_right, or_right}
+use Rattle.laws.proofs.Tests.{and_left, and_right}
 use Rattle.laws.proofs.Chains.{chained_of}
 use Rattle.laws.proofs.Occurs.{occurs_here, occurs_there, without_zero}
 use Rattle.tables.proofs.Columns.{column_at, column_past}

@@ -1,6 +1,6 @@
 -- The bound of what stands after a point, so that sums of it fit.
 -- Assumes nothing.
-use Rattle.std.specs.Prelude.{ℕ, ◌≤◌}
+use Rattle.std.specs.Prelude.{◌≤◌}
 use Rattle.tokens.specs.declared.Decimals.{Decimals}
 use Rattle.tokens.specs.declared.Decimals.TheVariants.{Are, Bad}
 

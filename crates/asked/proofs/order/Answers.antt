@@ -7,9 +7,9 @@ use Rattle.asked.proofs.order.Goals as goal
 
 pub all_keep_order-requires : goal.all_keep_order-requires
 all_keep_order-requires c = let p = rw c.in-Passes.is at c.bounds.ensures in record {
-      fact_1 = lent_by _ p.0;
-      fact_2 = p.1;
-    }
+  fact_1 = lent_by _ p.0;
+  fact_2 = p.1;
+}
 
 pub returns-in-No : goal.returns-in-No
 returns-in-No c = let p = rw c.in-No.is at c.bounds.ensures in (no_bounds _ _ _ p.0 p.1, p.1)

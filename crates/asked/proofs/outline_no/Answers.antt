@@ -6,10 +6,10 @@ use Rattle.asked.proofs.outline_no.Goals as goal
 
 pub some_cell-requires : goal.some_cell-requires
 some_cell-requires c = let p = rw c.in-Passes.is at c.order.ensures in let y = ordered _ _ _ p.0 in record {
-      fact_1 = lent_of _ y.seven y.eight;
-      fact_2 = p.1;
-      fact_3 = (question_10 _ _).0 y.ten;
-    }
+  fact_1 = lent_of _ y.seven y.eight;
+  fact_2 = p.1;
+  fact_3 = (question_10 _ _).0 y.ten;
+}
 
 pub returns-in-No : goal.returns-in-No
 returns-in-No c = let p = rw c.in-No.is at c.order.ensures in some_no _ _ _ p.0 p.1

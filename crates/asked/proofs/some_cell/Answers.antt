@@ -1,6 +1,5 @@
 -- `asked::some_cell` meets its contract. The loop's invariant: no allowed turn below t has a cell.
 -- Assumes nothing.
-use Prim.Native.Nat.{◌-◌}
 use native.Mathlib.Omega.{arith}
 use Rattle.asked.proofs.AllowedTurns.{none_yet, none_more, none_found, turn_found}
 use Rattle.asked.proofs.some_cell.Goals as goal
@@ -10,11 +9,11 @@ loop-t-init c = (omega arith, none_yet _ _)
 
 pub allowed_cell-requires : goal.allowed_cell-requires
 allowed_cell-requires c = let p = c.requires in record {
-      fact_1 = p.fact_1;
-      fact_2 = p.fact_2;
-      fact_3 = omega arith;
-      fact_4 = p.fact_3;
-    }
+  fact_1 = p.fact_1;
+  fact_2 = p.fact_2;
+  fact_3 = omega arith;
+  fact_4 = p.fact_3;
+}
 
 pub returns-then-allowed_cell : goal.returns-then-allowed_cell
 returns-then-allowed_cell c = let p = c.requires in turn_found _ _ p.fact_1 p.fact_3 c.allowed_cell.ensures c.if-allowed_cell.true

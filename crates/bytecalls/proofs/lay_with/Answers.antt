@@ -17,6 +17,6 @@ slice_bounds-lay_words-end-2 c = sym (part_long _ (lesser_most _ _ c.lesser-m.en
 
 pub lay_words-requires : goal.lay_words-requires
 lay_words-requires c = record {
-      fact_1 = part_is _ _ c.lesser-n.ensures;
-      fact_2 = part_is _ _ c.lesser-m.ensures;
-    }
+  fact_1 = part_is _ _ c.lesser-n.ensures;
+  fact_2 = part_is _ _ c.lesser-m.ensures;
+}

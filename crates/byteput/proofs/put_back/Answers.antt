@@ -1,6 +1,6 @@
 -- Placed, the strip's words are put back; refused, its bytes stay. Assumes nothing.
 use Rattle.byteput.proofs.Calls.{put_back, kept_back}
-use Rattle.std.proofs.Common.{arith, rules}
+use Rattle.std.proofs.Common.{rules}
 use Rattle.byteput.proofs.put_back.Goals as goal
 
 pub returns-in-Placed : goal.returns-in-Placed

@@ -11,6 +11,6 @@ slice_bounds-put_words-end c = sym (part_long _ (lesser_most _ _ c.lesser-m.ensu
 
 pub put_words-requires : goal.put_words-requires
 put_words-requires c = record {
-      fact_1 = c.requires;
-      fact_2 = part_is _ _ c.lesser-m.ensures;
-    }
+  fact_1 = c.requires;
+  fact_2 = part_is _ _ c.lesser-m.ensures;
+}

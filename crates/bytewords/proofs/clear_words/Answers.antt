@@ -1,6 +1,5 @@
 -- Zeros are stored one after another. Assumes nothing.
 use mathlib.Core.Path.{refl}
-use Prim.Native.Nat.{◌-◌}
 use Rattle.bytewords.proofs.Loops.{clearing_start, clearing_next, clearing_end}
 use Rattle.bytewords.proofs.clear_words.Goals as goal
 

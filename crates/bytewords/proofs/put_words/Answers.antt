@@ -1,5 +1,4 @@
 -- The words still to put, stored where they go, give the whole. Assumes nothing.
-use Prim.Native.Nat.{◌-◌}
 use Rattle.bytewords.proofs.Loops.{putting_start, putting_next, putting_end}
 use Rattle.bytewords.proofs.put_words.Goals as goal
 

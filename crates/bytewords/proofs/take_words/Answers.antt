@@ -1,5 +1,4 @@
 -- Each word is the number at its two bytes. Assumes nothing.
-use Prim.Native.Nat.{◌-◌}
 use Rattle.bytewords.proofs.Loops.{taking_start, taking_next, taking_end}
 use Rattle.bytewords.proofs.take_words.Goals as goal
 

@@ -3,7 +3,6 @@
 -- Assumes nothing.
 use lib.ListN.{length-set}
 use native.Mathlib.Omega.{arith}
-use Prim.Native.Nat.{◌-◌}
 use Rattle.cells.proofs.Words.{storing_start, storing_next, storing_end}
 use Rattle.cells.proofs.put_column.Goals as goal
 

@@ -3,7 +3,6 @@
 -- Assumes nothing.
 use mathlib.Core.Path.{refl, sym}
 use native.Mathlib.Omega.{arith}
-use Prim.Native.Nat.{◌-◌}
 use Rattle.outline.proofs.Limit.{extent_limit}
 use Rattle.cells.proofs.Columns.{putting_start, column_number, column_put, at_work, all_put}
 use Rattle.cells.proofs.put_runs.Goals as goal

@@ -1,5 +1,4 @@
 -- The walk along a column's chain. The measure: rows are left above the last run. Assumes nothing.
-use Prim.Native.Nat.{◌-◌}
 use native.Mathlib.Omega.{arith}
 use borrow.Author.Rules.{rules}
 use Rattle.chains.proofs.Walks.{column_start, column_wrong, column_next, column_end}

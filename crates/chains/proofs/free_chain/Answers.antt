@@ -1,7 +1,6 @@
 -- The walk along the free chain. The measure: at most Q records. Assumes nothing.
 use mathlib.Core.Path.{sym, ◌∙◌}
 use mathlib.Core.Bool.{false≢true}
-use Prim.Native.Nat.{◌-◌}
 use native.Mathlib.Omega.{arith}
 use Rattle.chains.proofs.Walks.{free_start, free_past, free_long, free_wrong, free_next, free_along, free_end}
 use Rattle.chains.proofs.free_chain.Goals as goal

@@ -1,8 +1,6 @@
 -- `checks::all_keep_order` meets its contract. The loop's invariant: each turn below t passes.
 -- Assumes nothing.
 use mathlib.Core.Path.{sym, ◌∙◌}
-use mathlib.Core.Bool.{true}
-use Prim.Native.Nat.{◌-◌}
 use native.Mathlib.Omega.{arith}
 use Rattle.checks.proofs.Turned.{no_turn_yet, turns_more, turns_end, turn_fails}
 use Rattle.checks.proofs.all_keep_order.Goals as goal

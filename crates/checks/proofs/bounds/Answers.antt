@@ -12,9 +12,9 @@ bounds_of-b-requires c = has_vertex _ (sym c.seven.ensures ∙ c.if-not-seven.fa
 
 pub eight-requires : goal.eight-requires
 eight-requires c = record {
-      fact_1 = sym c.seven.ensures ∙ c.if-not-seven.false;
-      fact_2 = c.bounds_of-b.ensures;
-    }
+  fact_1 = sym c.seven.ensures ∙ c.if-not-seven.false;
+  fact_2 = c.bounds_of-b.ensures;
+}
 
 pub returns-then-not-eight : goal.returns-then-not-eight
 returns-then-not-eight c = (no_8 _ (sym c.seven.ensures ∙ c.if-not-seven.false) (sym c.eight.ensures ∙ c.if-not-eight.true), omega arith)

@@ -1,6 +1,5 @@
 -- src/lib.rt:105:8
 use Rattle.slabs.specs.Change.{crossesb}
-use Rattle.checks.proofs.crosses.Lts as lts
 use Rattle.checks.proofs.crosses.Goals as goal
 
 -- src/lib.rt:106:9

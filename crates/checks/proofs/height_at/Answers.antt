@@ -1,7 +1,6 @@
 -- src/lib.rt:79:18
 use native.Mathlib.Omega.{arith}
 use Rattle.checks.proofs.Pairs.{left_part, right_part, height_from}
-use Rattle.checks.proofs.height_at.Lts as lts
 use Rattle.checks.proofs.height_at.Goals as goal
 
 -- src/lib.rt:83:5

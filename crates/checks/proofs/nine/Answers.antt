@@ -1,7 +1,6 @@
 -- src/lib.rt:51:9
 use Rattle.defs.specs.Computing.Calls.{q9b}
 use borrow.Author.Tests.{le-leb, lt-leb}
-use Rattle.checks.proofs.nine.Lts as lts
 use Rattle.checks.proofs.nine.Goals as goal
 
 pub returns-then-mask-ge1 : goal.returns-then-mask-ge1

@@ -3,7 +3,6 @@ use Rattle.checks.proofs.Pairs.{span_product}
 use native.Mathlib.Omega.{arith}
 use borrow.Author.Tests.{lt-ltb, le-ltb}
 use Rattle.slabs.specs.Change.{passesb}
-use Rattle.checks.proofs.passes.Lts as lts
 use Rattle.checks.proofs.passes.Goals as goal
 
 -- src/lib.rt:95:21

@@ -1,7 +1,6 @@
 -- src/lib.rt:25:13
 use Rattle.defs.specs.Computing.Calls.{q7b}
 use borrow.Author.Tests.{eq-eqb, ne_eqb, le-leb, lt-leb}
-use Rattle.checks.proofs.seven.Lts as lts
 use Rattle.checks.proofs.seven.Goals as goal
 
 pub returns-then-n-ge-LEAST_WORDS : goal.returns-then-n-ge-LEAST_WORDS

@@ -2,7 +2,6 @@
 -- The loop's invariant is the same for the columns from `from` to a: a part of a neat slab is neat, so its rows are those of its unit
 -- columns. Assumes nothing.
 use native.Mathlib.Omega.{arith}
-use Prim.Native.Nat.{◌-◌}
 use Rattle.column.proofs.Parts.{part_neat}
 use Rattle.column.proofs.Units.{row_limit, units_none, units_more, units_end, room_units}
 use Rattle.column.proofs.Columns.{column_of_lem, stock_of, working_on, held_fit}
@@ -14,20 +13,20 @@ loop-a-init c = (search rules, search rules, c.requires.fact_5, search rules, se
 
 pub held-k-requires : goal.held-k-requires
 held-k-requires c = record {
-      fact_1 = c.requires.fact_1;
-      fact_2 = c.requires.fact_2;
-      fact_3 = c.loop-a-test.true;
-      fact_4 = c.requires.fact_4;
-      fact_5 = stock_of c.loop-a.invariant.2;
-    }
+  fact_1 = c.requires.fact_1;
+  fact_2 = c.requires.fact_2;
+  fact_3 = c.loop-a-test.true;
+  fact_4 = c.requires.fact_4;
+  fact_5 = stock_of c.loop-a.invariant.2;
+}
 
 pub portion-n-requires : goal.portion-n-requires
 portion-n-requires c = record {
-      fact_1 = held_fit _ _ c.requires.fact_1 c.held-k.ensures (omega (arith, c.loop-a.invariant.2.buffers.left)) (omega (arith, c.loop-a.invariant.2.buffers.right)) (omega (arith, c.loop-a.invariant.2.buffers.wide));
-      fact_2 = (c.held-k.ensures.from, omega (arith, c.less-e.ensures, c.held-k.ensures.to, c.loop-a-test.true), omega (arith, c.less-e.ensures));
-      fact_3 = (c.loop-a.invariant.2.part_left, c.loop-a.invariant.2.part_right);
-      fact_4 = room_units c.requires.fact_5.buffers c.loop-a.invariant.5 (row_limit c.requires.fact_1 _ c.requires.fact_2.turn c.requires.fact_4 _ _) c.loop-a.invariant.3 c.loop-a.invariant.4;
-    }
+  fact_1 = held_fit _ _ c.requires.fact_1 c.held-k.ensures (omega (arith, c.loop-a.invariant.2.buffers.left)) (omega (arith, c.loop-a.invariant.2.buffers.right)) (omega (arith, c.loop-a.invariant.2.buffers.wide));
+  fact_2 = (c.held-k.ensures.from, omega (arith, c.less-e.ensures, c.held-k.ensures.to, c.loop-a-test.true), omega (arith, c.less-e.ensures));
+  fact_3 = (c.loop-a.invariant.2.part_left, c.loop-a.invariant.2.part_right);
+  fact_4 = room_units c.requires.fact_5.buffers c.loop-a.invariant.5 (row_limit c.requires.fact_1 _ c.requires.fact_2.turn c.requires.fact_4 _ _) c.loop-a.invariant.3 c.loop-a.invariant.4;
+}
 
 pub loop-a-smaller : goal.loop-a-smaller
 loop-a-smaller c = omega (arith, c.less-e.ensures, c.held-k.ensures.to, c.loop-a-test.true)

@@ -1,7 +1,6 @@
 -- `part` meets its contract: it writes the heights of each entry at two distances from the slab's left end.
 -- The loop's invariant is the contract for the entries written. Assumes nothing.
 use native.Mathlib.Omega.{arith}
-use Prim.Native.Nat.{◌-◌}
 use Rattle.column.proofs.Parts.{parted_none, parted_more, parted_end}
 use borrow.Author.Rules.{rules}
 use Rattle.column.proofs.part.Goals as goal

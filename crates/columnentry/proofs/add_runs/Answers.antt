@@ -1,6 +1,5 @@
 -- `add_runs` meets its contract: the piece's runs a to i - 1 are joined, and there is room for one more.
 -- Assumes nothing.
-use Prim.Native.Nat.{◌-◌}
 use mathlib.Core.Path.{◌≡◌}
 use native.Mathlib.Omega.{arith}
 use Rattle.columnentry.proofs.Adding.{run_fits, room_left, added_none, added_more}

@@ -1,6 +1,6 @@
 -- `column_end` meets its contract: the piece's runs before run e are in columns up to k.
 -- Assumes nothing.
-use Prim.Native.Nat.{◌-◌, ◌*◌}
+use Prim.Native.Nat.{◌*◌}
 use native.Mathlib.Omega.{arith}
 use borrow.Author.Count.{below_more}
 use Rattle.columnentry.proofs.Adding.{run_fits, split_next}

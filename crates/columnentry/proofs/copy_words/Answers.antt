@@ -1,6 +1,5 @@
 -- `copy_words` meets its contract: the words a to i - 1 stand at t.
 -- Assumes nothing.
-use Prim.Native.Nat.{◌-◌}
 use mathlib.Core.Path.{◌≡◌}
 use native.Mathlib.Omega.{arith}
 use Rattle.columnentry.proofs.Copying.{copied_none, copied_more}

@@ -16,12 +16,12 @@ extent_of-e-requires c = let pre = c.requires in
 
 pub put_turn-k-requires : goal.put_turn-k-requires
 put_turn-k-requires c = let pre = c.requires in record {
-      fact_1 = lent pre.fact_2;
-      fact_2 = pre.fact_3;
-      fact_3 = (turn_most pre.fact_2, c.extent_of-e.ensures.0);
-      fact_4 = keeps pre.fact_2;
-      fact_5 = (resolution pre.fact_1, pre.fact_1.gap);
-    }
+  fact_1 = lent pre.fact_2;
+  fact_2 = pre.fact_3;
+  fact_3 = (turn_most pre.fact_2, c.extent_of-e.ensures.0);
+  fact_4 = keeps pre.fact_2;
+  fact_5 = (resolution pre.fact_1, pre.fact_1.gap);
+}
 
 pub returns-then-k-eq0 : goal.returns-then-k-eq0
 returns-then-k-eq0 c =
@@ -80,9 +80,9 @@ enter_at-requires c = let pre = c.requires in
     let columns = c.columns_for.ensures in record {
       fact_1 = pre.fact_1;
       fact_2 = enterable c.args.p
-            pre.fact_1.gap pre.fact_1.table pre.fact_2 bounds put room extent.0 columns extent.1
-            c.fits_at.ensures
-            c.if-not-fits_at.false (search rules);
+          pre.fact_1.gap pre.fact_1.table pre.fact_2 bounds put room extent.0 columns extent.1
+          c.fits_at.ensures
+          c.if-not-fits_at.false (search rules);
       fact_3 = put_kept put;
     }
 

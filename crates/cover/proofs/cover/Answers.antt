@@ -12,16 +12,16 @@ returns-then-not-gap_fits c = refused_step c.refused-then-not-gap_fits.ensures (
 
 pub extent_of-e-requires : goal.extent_of-e-requires
 extent_of-e-requires c = let p = rw c.in-Passes.is at c.order.ensures in record {
-      fact_1 = vertices _ _ p.0;
-      fact_2 = p.1;
-      fact_3 = turn_limit _ _ p.0;
-    }
+  fact_1 = vertices _ _ p.0;
+  fact_2 = p.1;
+  fact_3 = turn_limit _ _ p.0;
+}
 
 pub frame_of-requires : goal.frame_of-requires
 frame_of-requires c = let p = rw c.in-Passes.is at c.order.ensures in record {
-      fact_1 = p.1;
-      fact_2 = turn_limit _ _ p.0;
-    }
+  fact_1 = p.1;
+  fact_2 = turn_limit _ _ p.0;
+}
 
 pub cover_runs-requires : goal.cover_runs-requires
 cover_runs-requires c = let p = rw c.in-Passes.is at c.order.ensures in

@@ -8,12 +8,12 @@ use Rattle.cover.proofs.cover_runs.Goals as goal
 
 pub put_runs-k-requires : goal.put_runs-k-requires
 put_runs-k-requires c = let p = c.requires in record {
-      fact_1 = lent p.fact_1;
-      fact_2 = p.fact_2;
-      fact_3 = p.fact_3.0;
-      fact_4 = keeps p.fact_1;
-      fact_5 = (in_limits p.fact_1, gap_limit p.fact_1);
-    }
+  fact_1 = lent p.fact_1;
+  fact_2 = p.fact_2;
+  fact_3 = p.fact_3.0;
+  fact_4 = keeps p.fact_1;
+  fact_5 = (in_limits p.fact_1, gap_limit p.fact_1);
+}
 
 pub returns-then-k-eq0 : goal.returns-then-k-eq0
 returns-then-k-eq0 c = step_11 c.requires.fact_1 c.put_runs-k.ensures c.if-k-eq0.true c.refused.ensures refl
@@ -23,12 +23,12 @@ returns-then-out-k c = step_12 c.requires.fact_1 c.put_runs-k.ensures c.if-k-eq0
 
 pub write_runs-requires : goal.write_runs-requires
 write_runs-requires c = let p = c.requires in record {
-      fact_1 = lent p.fact_1;
-      fact_2 = p.fact_2;
-      fact_3 = p.fact_3.0;
-      fact_4 = keeps p.fact_1;
-      fact_5 = counted p.fact_1 c.put_runs-k.ensures refl (λ l. omega (arith, c.if-out-k.false));
-    }
+  fact_1 = lent p.fact_1;
+  fact_2 = p.fact_2;
+  fact_3 = p.fact_3.0;
+  fact_4 = keeps p.fact_1;
+  fact_5 = counted p.fact_1 c.put_runs-k.ensures refl (λ l. omega (arith, c.if-out-k.false));
+}
 
 pub overflow_cast-result : goal.overflow_cast-result
 overflow_cast-result c =

@@ -12,9 +12,9 @@ loop-at-init c = (sum_start c.requires.fact_1 c.requires.fact_2 c.number-at.ensu
 
 pub piece_words-total-requires : goal.piece_words-total-requires
 piece_words-total-requires c = record {
-      fact_1 = along_here c.loop-at.invariant.0.along (omega arith);
-      fact_2 = sum_ends c.loop-at.invariant.0 (omega arith);
-    }
+  fact_1 = along_here c.loop-at.invariant.0.along (omega arith);
+  fact_2 = sum_ends c.loop-at.invariant.0 (omega arith);
+}
 
 pub overflow_add-total : goal.overflow_add-total
 overflow_add-total c = omega (arith, c.loop-at.invariant.0.few, c.piece_words-total.ensures.few)

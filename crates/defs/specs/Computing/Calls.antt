@@ -1,5 +1,5 @@
 -- What cover, open, place, ask and commit answer, and what they leave in each lent buffer. Assumes nothing.
-use Rattle.std.specs.Prelude.{◌≡◌, Bool, true, ◌&&◌, List, [], ◌∷◌, ◌++◌, ℕ, ◌+◌, ◌*◌, ◌-◌, ◌%◌, ◌^◌, ◌<◌, ltb, leb, eqb, length, get_or, drop, replicate}
+use Rattle.std.specs.Prelude.{◌≡◌, Bool, true, ◌&&◌, List, [], ◌∷◌, ◌++◌, ℕ, ◌+◌, ◌*◌, ◌%◌, ◌^◌, ◌<◌, ltb, leb, eqb, length, get_or, drop, replicate}
 use Rattle.std.proofs.Math.Option.{Option, none, some}
 use Rattle.defs.specs.declared.Position.{Position}
 use Rattle.defs.specs.declared.Refusal.{Refusal}

@@ -1,6 +1,5 @@
 -- Each turn of the loop stores the first record of one column more. Assumes nothing.
 use native.Mathlib.Omega.{arith}
-use Prim.Native.Nat.{◌-◌}
 use Rattle.defs.specs.Meaning.Limits.{leading_words}
 use Rattle.freerecords.specs.Stored.{first_record, first_records}
 use Rattle.words.proofs.Storing.{storing_start, storing_one, storing_as, storing_end}

@@ -1,6 +1,5 @@
 -- Each turn of the loop stores the records of one column more; the runs before it say where they go. Assumes nothing.
 use native.Mathlib.Omega.{arith}
-use Prim.Native.Nat.{◌-◌}
 use Rattle.encode.proofs.Columns.{recording_start, recording_fits, recording_next, recording_end}
 use Rattle.encode.proofs.put_records.Goals as goal
 

@@ -1,6 +1,5 @@
 -- `enter` meets its contract: the first k columns of the new table are entered, and have no more runs than they may.
 -- Assumes nothing.
-use Prim.Native.Nat.{◌-◌}
 use mathlib.Core.Path.{◌≡◌}
 use native.Mathlib.Omega.{arith}
 use lib.ListN.{length-set}
@@ -18,7 +17,6 @@ loop-k-init c = (
   search rules,
   search rules,
   search rules,
-
 )
 
 pub enter_column-b-requires : goal.enter_column-b-requires
@@ -52,7 +50,6 @@ loop-k-preserved c = (
   search rules,
   search rules,
   search rules,
-
 )
 
 pub shape_of-first2 : goal.shape_of-first2

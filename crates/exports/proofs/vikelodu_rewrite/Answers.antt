@@ -46,18 +46,18 @@ encode-requires c = let held =
 
 pub returns-in-Runs : goal.returns-in-Runs
 returns-in-Runs c = record {
-      fact_1 = (rewritten_is
-    (rw c.in-Runs.is at
-    c.decode.ensures)
-    c.encode.ensures).0;
-      fact_2 = (rewritten_is
-    (rw c.in-Runs.is at
-    c.decode.ensures)
-    c.encode.ensures).1;
-    }
+  fact_1 = (rewritten_is
+      (rw c.in-Runs.is at
+      c.decode.ensures)
+      c.encode.ensures).0;
+  fact_2 = (rewritten_is
+      (rw c.in-Runs.is at
+      c.decode.ensures)
+      c.encode.ensures).1;
+}
 
 pub returns-in-Ill : goal.returns-in-Ill
 returns-in-Ill c = record {
-      fact_1 = (not_rewritten _ (rw c.in-Ill.is at c.decode.ensures)).0;
-      fact_2 = (not_rewritten _ (rw c.in-Ill.is at c.decode.ensures)).1;
-    }
+  fact_1 = (not_rewritten _ (rw c.in-Ill.is at c.decode.ensures)).0;
+  fact_2 = (not_rewritten _ (rw c.in-Ill.is at c.decode.ensures)).1;
+}

@@ -1,6 +1,5 @@
 -- The walk over all chains, counting their records. Assumes nothing.
 use mathlib.Core.Path.{sym}
-use Prim.Native.Nat.{◌-◌}
 use native.Mathlib.Omega.{arith}
 use Rattle.form.proofs.Totals.{on_start, on_next, on_fits, end_fits, broken, ended}
 use Rattle.form.proofs.whole.Goals as goal

@@ -24,10 +24,10 @@ top-hi-requires c = let f = upper_fit c.requires.fact_1 c.args.x c.requires.fact
 
 pub join-requires : goal.join-requires
 join-requires c = record {
-      fact_1 = c.requires.fact_3.runs;
-      fact_2 = (omega (arith, room_more c.requires.fact_3, c.requires.fact_3.long), omega (arith, room_more c.requires.fact_3, c.requires.fact_3.high_long));
-      fact_3 = omega (arith, c.narrow.ensures, c.narrow-then-lo-hi.ensures);
-    }
+  fact_1 = c.requires.fact_3.runs;
+  fact_2 = (omega (arith, room_more c.requires.fact_3, c.requires.fact_3.long), omega (arith, room_more c.requires.fact_3, c.requires.fact_3.high_long));
+  fact_3 = omega (arith, c.narrow.ensures, c.narrow-then-lo-hi.ensures);
+}
 
 pub returns-then-lo-hi : goal.returns-then-lo-hi
 returns-then-lo-hi c =

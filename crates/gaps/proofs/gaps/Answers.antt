@@ -1,7 +1,6 @@
 -- `gaps` meets its contract: it joins the rows of each pair to the runs. The loop's invariant is the contract for the pairs looked at.
 -- Assumes nothing.
 use native.Mathlib.Omega.{arith}
-use Prim.Native.Nat.{◌-◌}
 use Rattle.gaps.proofs.Adding.{paired_none, paired_more, paired_row, paired_end, room_adds}
 use borrow.Author.Rules.{rules}
 use Rattle.gaps.proofs.gaps.Goals as goal

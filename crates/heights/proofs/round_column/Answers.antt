@@ -2,7 +2,7 @@
 -- try leaves a run less or goes up, so the tries come to an end. Runs past the last column count for nothing.
 -- Assumes nothing.
 use native.Mathlib.Omega.{arith}
-use Prim.Native.Nat.{◌-◌, ◌*◌}
+use Prim.Native.Nat.{◌*◌}
 use Rattle.walk.proofs.Jumps.{least_all, none_all}
 use Rattle.heights.proofs.Goings.{going_start, run_left, going_end, going_stop, going_next, asks, asks_part, settled_whole, falls}
 use Rattle.heights.proofs.round_column.Goals as goal

@@ -1,7 +1,6 @@
 -- `settle` meets its contract: each jump goes onto the lowest run that the rows meet, and the next that they can meet is the one above.
 -- Assumes nothing.
 use native.Mathlib.Omega.{arith}
-use Prim.Native.Nat.{◌-◌}
 use Rattle.heights.proofs.Risings.{rise_start, rise_next, rise_end, high_most}
 use Rattle.heights.proofs.settle.Goals as goal
 

@@ -7,12 +7,12 @@ use Rattle.inside.proofs.has_run.Goals as goal
 
 pub column-c-requires : goal.column-c-requires
 column-c-requires c = let p = c.requires in record {
-      fact_1 = p.fact_1;
-      fact_2 = p.fact_2;
-      fact_3 = omega arith;
-      fact_4 = p.fact_4;
-      fact_5 = new_work _ c.none.ensures.1 c.none.ensures.3 refl refl refl refl refl refl refl;
-    }
+  fact_1 = p.fact_1;
+  fact_2 = p.fact_2;
+  fact_3 = omega arith;
+  fact_4 = p.fact_4;
+  fact_5 = new_work _ c.none.ensures.1 c.none.ensures.3 refl refl refl refl refl refl refl;
+}
 
 pub returns : goal.returns
 returns c = let p = c.requires in one_column _ _ p.fact_1 p.fact_4 p.fact_3 c.column-c.ensures

@@ -11,9 +11,9 @@ overflow_cast-n-2 c = omega (arith, few c.requires)
 
 pub encode-requires : goal.encode-requires
 encode-requires c = record {
-      fact_1 = flat c.requires;
-      fact_2 = room c.requires;
-    }
+  fact_1 = flat c.requires;
+  fact_2 = room c.requires;
+}
 
 pub returns : goal.returns
 returns c = strip_left c.requires c.encode.ensures

@@ -6,10 +6,10 @@ use Rattle.join.proofs.join.Goals as goal
 
 pub join_from-requires : goal.join_from-requires
 join_from-requires c = record {
-      fact_1 = based_apart c.requires.fact_1;
-      fact_2 = omega arith;
-      fact_3 = omega arith;
-    }
+  fact_1 = based_apart c.requires.fact_1;
+  fact_2 = omega arith;
+  fact_3 = omega arith;
+}
 
 pub returns : goal.returns
 returns c = joined c.join_from.ensures

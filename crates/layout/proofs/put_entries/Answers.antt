@@ -1,5 +1,4 @@
 -- The lines still to put, of the entries still to come, give the whole. Assumes nothing.
-use Prim.Native.Nat.{◌-◌}
 use native.Mathlib.Omega.{arith}
 use Rattle.layout.proofs.Lines.{list_start, list_next, list_end}
 use Rattle.layout.proofs.put_entries.Goals as goal

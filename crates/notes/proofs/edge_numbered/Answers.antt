@@ -5,6 +5,6 @@ use Rattle.notes.proofs.edge_numbered.Goals as goal
 
 pub edge-requires : goal.edge-requires
 edge-requires c = let p = rw c.in-Passes.is at c.bounds.ensures in record {
-      fact_1 = lent_by _ p.0;
-      fact_2 = omega arith;
-    }
+  fact_1 = lent_by _ p.0;
+  fact_2 = omega arith;
+}

@@ -1,10 +1,8 @@
 use Rattle.outline.proofs.Vertices.{all_bounds}
 use native.Mathlib.Omega.{arith}
-use Prim.Native.Nat.{◌-◌}
 use Rattle.defs.specs.Meaning.Outline.{vx, vy}
 use Rattle.outline.proofs.Vertices.{least_one, most_one, least_more, most_more}
 use borrow.Author.Rules.{rules}
-use Rattle.outline.proofs.bounds_of.Lts as lts
 use Rattle.outline.proofs.bounds_of.Goals as goal
 
 -- src/lib.rt:53:5

@@ -2,7 +2,6 @@ use Prim.Native.Nat.{◌≤◌, ◌-◌}
 use mathlib.Core.Path.{◌≡◌}
 use Rattle.defs.specs.Meaning.Outline.{vx, vy, sides}
 use Rattle.defs.specs.Computing.Vertices.{least_n, most_n}
-use Rattle.outline.proofs.bounds_of.Lts as lts
 use Rattle.outline.proofs.bounds_of.Given as goal
 
 abbrev pub invariant-loop-i : goal.invariant-loop-i

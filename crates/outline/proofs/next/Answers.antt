@@ -1,7 +1,6 @@
 -- src/lib.rt:35:8
 use borrow.Author.Rules.{rules}
 use borrow.Author.Tests.{eq-eqb, ne_eqb}
-use Rattle.outline.proofs.next.Lts as lts
 use Rattle.outline.proofs.next.Goals as goal
 
 -- src/lib.rt:36:9

@@ -8,18 +8,18 @@ bounds_of-b-requires c = has_vertex _ c.requires.fact_2.seven
 
 pub place_current-x-requires : goal.place_current-x-requires
 place_current-x-requires c = let pre = c.requires in record {
-      fact_1 = pre.fact_1;
-      fact_2 = pre.fact_2;
-      fact_3 = c.bounds_of-b.ensures;
-      fact_4 = pre.fact_5;
-    }
+  fact_1 = pre.fact_1;
+  fact_2 = pre.fact_2;
+  fact_3 = c.bounds_of-b.ensures;
+  fact_4 = pre.fact_5;
+}
 
 pub right_of-right-requires : goal.right_of-right-requires
 right_of-right-requires c = let y = c.requires.fact_2 in record {
-      fact_1 = lent_of _ y.seven y.eight;
-      fact_2 = c.bounds_of-b.ensures;
-      fact_3 = c.place_current-x.ensures.fits.turn;
-    }
+  fact_1 = lent_of _ y.seven y.eight;
+  fact_2 = c.bounds_of-b.ensures;
+  fact_3 = c.place_current-x.ensures.fits.turn;
+}
 
 pub put_entry-requires : goal.put_entry-requires
 put_entry-requires c = let pre = c.requires in (pre.fact_3.first, pre.fact_4)

@@ -5,19 +5,19 @@ use Rattle.piece.proofs.place_current.Goals as goal
 
 pub place_asked-requires : goal.place_asked-requires
 place_asked-requires c = record {
-      fact_1 = tabled (swapped (rw c.if-second.true at c.requires.fact_1));
-      fact_2 = c.requires.fact_2;
-      fact_3 = c.requires.fact_3;
-      fact_4 = rw c.if-second.true at c.requires.fact_4;
-    }
+  fact_1 = tabled (swapped (rw c.if-second.true at c.requires.fact_1));
+  fact_2 = c.requires.fact_2;
+  fact_3 = c.requires.fact_3;
+  fact_4 = rw c.if-second.true at c.requires.fact_4;
+}
 
 pub place_asked-requires-else-second : goal.place_asked-requires-else-second
 place_asked-requires-else-second c = record {
-      fact_1 = tabled (rw c.if-second.false at c.requires.fact_1);
-      fact_2 = c.requires.fact_2;
-      fact_3 = c.requires.fact_3;
-      fact_4 = rw c.if-second.false at c.requires.fact_4;
-    }
+  fact_1 = tabled (rw c.if-second.false at c.requires.fact_1);
+  fact_2 = c.requires.fact_2;
+  fact_3 = c.requires.fact_3;
+  fact_4 = rw c.if-second.false at c.requires.fact_4;
+}
 
 pub returns-then-second : goal.returns-then-second
 returns-then-second c = rw c.if-second.true (placed_second (rw c.if-second.true at c.requires.fact_1) (roomy c.requires.fact_1.room (search rules) (search rules) (search rules)) c.place_asked.ensures.placed)

@@ -12,9 +12,9 @@ loop-at-init c = (ask_start c.requires.fact_1 c.number-at.ensures, search rules)
 
 pub piece_no-n-requires : goal.piece_no-n-requires
 piece_no-n-requires c = record {
-      fact_1 = along_here c.loop-at.invariant.0.along (omega arith);
-      fact_2 = c.requires.fact_2;
-    }
+  fact_1 = along_here c.loop-at.invariant.0.along (omega arith);
+  fact_2 = c.requires.fact_2;
+}
 
 pub returns-then-n-ne0 : goal.returns-then-n-ne0
 returns-then-n-ne0 c = ask_stop c.loop-at.invariant.0 (omega arith) c.piece_no-n.ensures c.if-n-ne0.true

@@ -7,9 +7,9 @@ use Rattle.position.proofs.place_asked.Goals as goal
 
 pub best_turn-s-requires : goal.best_turn-s-requires
 best_turn-s-requires c = let y = c.requires.fact_2 in record {
-      fact_1 = ready c.requires.fact_1 y c.requires.fact_3;
-      fact_2 = ((question_10 _ _).0 y.ten, c.requires.fact_4);
-    }
+  fact_1 = ready c.requires.fact_1 y c.requires.fact_3;
+  fact_2 = ((question_10 _ _).0 y.ten, c.requires.fact_4);
+}
 
 pub returns-then-s-eq0 : goal.returns-then-s-eq0
 returns-then-s-eq0 c = untried_on _ c.untried.ensures (eleven _ _ _ _ _ _ _ _ _ c.requires.fact_1.limits.resolution.at_least c.requires.fact_2 c.best_turn-s.ensures.fact_1 c.if-s-eq0.true)
@@ -19,10 +19,10 @@ returns-then-room-s c = untried_on _ c.untried-then-room-s.ensures (twelve _ _ _
 
 pub enter_at-requires : goal.enter_at-requires
 enter_at-requires c = record {
-      fact_1 = c.requires.fact_1;
-      fact_2 = enterable _ _ _ _ c.args.q _ _ _ _ c.requires.fact_1.limits.resolution.at_least c.requires.fact_2 c.best_turn-s.ensures.fact_1 c.if-s-eq0.false c.if-room-s.false _ refl c.requires.fact_1.table c.requires.fact_3 c.in-Chosen.is (search rules);
-      fact_3 = c.best_turn-s.ensures.fact_2;
-    }
+  fact_1 = c.requires.fact_1;
+  fact_2 = enterable _ _ _ _ c.args.q _ _ _ _ c.requires.fact_1.limits.resolution.at_least c.requires.fact_2 c.best_turn-s.ensures.fact_1 c.if-s-eq0.false c.if-room-s.false _ refl c.requires.fact_1.table c.requires.fact_3 c.in-Chosen.is (search rules);
+  fact_3 = c.best_turn-s.ensures.fact_2;
+}
 
 pub returns-in-Chosen : goal.returns-in-Chosen
 returns-in-Chosen c =

@@ -1,6 +1,5 @@
 -- The bytes still to put, stored where they go, give the whole. Assumes nothing.
 use mathlib.Core.Path.{refl}
-use Prim.Native.Nat.{◌-◌}
 use native.Mathlib.Omega.{arith}
 use Rattle.words.proofs.Copying.{copy_next, copy_end, copy_start}
 use Rattle.print.proofs.put.Goals as goal

@@ -1,5 +1,4 @@
 -- The numbers still to put, each after a space, give the whole. Assumes nothing.
-use Prim.Native.Nat.{◌-◌}
 use native.Mathlib.Omega.{arith}
 use lib.ListN.{length-set}
 use Rattle.print.proofs.Puts.{space_start, space_next, space_end}

@@ -1,7 +1,6 @@
 -- `raise` meets its contract: the runs are raised one by one.
 -- Assumes nothing.
 use native.Mathlib.Omega.{arith}
-use Prim.Native.Nat.{◌-◌}
 use Rattle.raise.proofs.Raising.{raised_by_none, raising_start, raising_next, raising_end}
 use Rattle.raise.proofs.raise.Goals as goal
 

@@ -1,6 +1,5 @@
 -- The coordinates still to look at decide the whole; the words still to store, where they go, give the whole. Assumes nothing.
 use lib.Seq.{lt-length-set}
-use Prim.Native.Nat.{◌-◌}
 use native.Mathlib.Omega.{arith}
 use Rattle.readpath.proofs.Lines.{drawn}
 use Rattle.readpath.proofs.Words.{keeping_start, keeping_next, keeping_not, keeping_end}

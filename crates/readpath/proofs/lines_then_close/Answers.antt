@@ -1,6 +1,5 @@
 -- The lines still to see decide the whole. Assumes nothing.
 use Rattle.readpath.proofs.Lines.{seen_start, seen_next, seen_other, seen_end}
-use Prim.Native.Nat.{◌-◌}
 use Rattle.readpath.proofs.lines_then_close.Goals as goal
 
 pub loop-i-init : goal.loop-i-init

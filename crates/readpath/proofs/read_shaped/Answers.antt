@@ -7,9 +7,9 @@ use Rattle.readpath.proofs.read_shaped.Goals as goal
 
 pub accepts-requires : goal.accepts-requires
 accepts-requires c = record {
-      fact_1 = c.requires;
-      fact_2 = omega (arith, most _ c.requires.nineteen, c.requires.count);
-    }
+  fact_1 = c.requires;
+  fact_2 = omega (arith, most _ c.requires.nineteen, c.requires.count);
+}
 
 pub returns-then-not-accepts : goal.returns-then-not-accepts
 returns-then-not-accepts c = not_accepted c.requires c.accepts.ensures c.if-not-accepts.true c.refused.ensures refl

@@ -9,9 +9,9 @@ number-v-requires c = omega (arith, long _ c.requires.begun.one)
 
 pub first_no-requires : goal.first_no-requires
 first_no-requires c = record {
-      fact_1 = chain_ends c.requires c.number-v.ensures;
-      fact_2 = resolution c.requires.begun;
-    }
+  fact_1 = chain_ends c.requires c.number-v.ensures;
+  fact_2 = resolution c.requires.begun;
+}
 
 pub returns-in-Pass : goal.returns-in-Pass
 returns-in-Pass c = record { passed = record { counted = c.requires; none_no = rw c.in-Pass.is at c.first_no.ensures }; gap_fits = refl; four = refl }

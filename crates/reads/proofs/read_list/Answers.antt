@@ -9,9 +9,9 @@ number-v-requires c = omega (arith, long _ c.requires.counted.begun.one)
 
 pub list_words-n-requires : goal.list_words-n-requires
 list_words-n-requires c = record {
-      fact_1 = chain_ends c.requires.counted c.number-v.ensures;
-      fact_2 = each_ends c.requires;
-    }
+  fact_1 = chain_ends c.requires.counted c.number-v.ensures;
+  fact_2 = each_ends c.requires;
+}
 
 pub returns-then-out-n : goal.returns-then-out-n
 returns-then-out-n c = step_15 c.requires c.list_words-n.ensures c.if-out-n.true c.refused.ensures refl
@@ -21,9 +21,9 @@ overflow_cast-count c = omega (arith, count_few c.requires.counted)
 
 pub put_list-requires : goal.put_list-requires
 put_list-requires c = record {
-      fact_1 = pieces_room c.requires c.number-v.ensures c.list_words-n.ensures c.if-out-n.false;
-      fact_2 = count_is c.requires.counted;
-    }
+  fact_1 = pieces_room c.requires c.number-v.ensures c.list_words-n.ensures c.if-out-n.false;
+  fact_2 = count_is c.requires.counted;
+}
 
 pub figures_of-requires : goal.figures_of-requires
 figures_of-requires c = long _ c.requires.counted.begun.one

@@ -1,6 +1,5 @@
 -- The vertices still to copy, stored where they go, give the whole. Assumes nothing.
 use mathlib.Core.Path.{ap}
-use Prim.Native.Nat.{◌-◌}
 use native.Mathlib.Omega.{arith}
 use borrow.Author.Rules.{rules}
 use Rattle.reader.specs.declared.Numbers.{Numbers}

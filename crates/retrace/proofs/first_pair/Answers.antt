@@ -1,6 +1,5 @@
 -- `first_pair` meets its contract: no edge before i shares a stretch with a later one. Assumes nothing.
 use mathlib.Core.Path.{sym, ap, ◌∙◌}
-use Prim.Native.Nat.{◌-◌}
 use native.Mathlib.Omega.{arith}
 use Rattle.laws.proofs.First.{left_next, left_found, left_none}
 use Rattle.strokes.specs.Retrace.{traced}

@@ -1,5 +1,4 @@
 -- `shared_after` meets its contract: no edge between i and j shares a stretch with edge i. Assumes nothing.
-use Prim.Native.Nat.{◌-◌}
 use native.Mathlib.Omega.{arith}
 use Rattle.laws.proofs.First.{left_next, left_found, left_none}
 use Rattle.retrace.proofs.Scan.{begin_later, not_shared, is_shared}
@@ -11,9 +10,9 @@ loop-j-init c = (search rules, search rules, begin_later _ _)
 
 pub shares-requires : goal.shares-requires
 shares-requires c = record {
-      fact_1 = c.edge-e.ensures.small;
-      fact_2 = c.edge-f.ensures.small;
-    }
+  fact_1 = c.edge-e.ensures.small;
+  fact_2 = c.edge-f.ensures.small;
+}
 
 pub returns-then-shares : goal.returns-then-shares
 returns-then-shares c = (left_found _ _ _ (omega arith) c.loop-j.invariant.2 _ (is_shared c.edge-e.ensures c.edge-f.ensures c.shares.ensures c.if-shares.true), omega arith)

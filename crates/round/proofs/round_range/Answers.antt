@@ -1,7 +1,6 @@
 -- `round_range` meets its contract: no column of the range before the one that is tried has a free height.
 -- Assumes nothing.
 use native.Mathlib.Omega.{arith}
-use Prim.Native.Nat.{◌-◌}
 use Rattle.round.proofs.Ranges.{full_none, full_more}
 use Rattle.round.proofs.round_range.Goals as goal
 

@@ -1,7 +1,6 @@
 -- `next_slab` meets its contract: the slab from a to its answer is neat, and its entries are loaded.
 -- Each end that is tried is a cut, since a lesser end than a cut's is one; its entries are tidy, or it is a unit column. Assumes nothing.
 use native.Mathlib.Omega.{arith}
-use Prim.Native.Nat.{◌-◌}
 use Rattle.entries.proofs.Entries.{all_fit}
 use Rattle.section.proofs.Cuts.{cut_spanned, cut_turned, cut_shorter, held_tidy, held_unit}
 use Rattle.section.proofs.next_slab.Goals as goal

@@ -17,18 +17,18 @@ loop-at-init c = (going_start (length c.args.work.now) c.requires c.number-at.en
 
 pub start_of-lower-requires : goal.start_of-lower-requires
 start_of-lower-requires c = record {
-      fact_1 = c.loop-at.invariant.0.last_here (omega arith);
-      fact_2 = along_here c.loop-at.invariant.0.along (omega arith);
-    }
+  fact_1 = c.loop-at.invariant.0.last_here (omega arith);
+  fact_2 = along_here c.loop-at.invariant.0.along (omega arith);
+}
 
 pub lay_piece-t-requires : goal.lay_piece-t-requires
 lay_piece-t-requires c = record {
-      fact_1 = along_here c.loop-at.invariant.0.along (omega arith);
-      fact_2 = going_passes c.loop-at.invariant.0 (omega arith);
-      fact_3 = c.loop-at.invariant.0.boards;
-      fact_4 = (going_few c.loop-at.invariant.0 (omega arith), going_room c.loop-at.invariant.0 (omega arith));
-      fact_5 = copy_starts c.loop-at.invariant.0.copies c.start_of-lower.ensures;
-    }
+  fact_1 = along_here c.loop-at.invariant.0.along (omega arith);
+  fact_2 = going_passes c.loop-at.invariant.0 (omega arith);
+  fact_3 = c.loop-at.invariant.0.boards;
+  fact_4 = (going_few c.loop-at.invariant.0 (omega arith), going_room c.loop-at.invariant.0 (omega arith));
+  fact_5 = copy_starts c.loop-at.invariant.0.copies c.start_of-lower.ensures;
+}
 
 pub overflow_add-v : goal.overflow_add-v
 overflow_add-v c = omega (arith, (along_here c.loop-at.invariant.0.along (omega arith)).in_sheet, c.requires.bytes)

@@ -9,9 +9,9 @@ overflow_cast-v c = omega (arith, vertices_small c.requires)
 
 pub put_pieces-requires : goal.put_pieces-requires
 put_pieces-requires c = record {
-      fact_1 = still_fits c.requires (omega arith);
-      fact_2 = omega (arith, c.requires.room);
-    }
+  fact_1 = still_fits c.requires (omega arith);
+  fact_2 = omega (arith, c.requires.room);
+}
 
 pub returns : goal.returns
 returns c =

@@ -1,5 +1,5 @@
 -- Each run before the last column is tried at its place; the first that meets an occupied run ends it. Assumes nothing.
-use Prim.Native.Nat.{◌*◌, ◌-◌}
+use Prim.Native.Nat.{◌*◌}
 use native.Mathlib.Omega.{arith}
 use Rattle.spot.proofs.Runs.{clear_none, clear_more, all_clear, met}
 use Rattle.walk.proofs.Jumps.{run_column_lem}

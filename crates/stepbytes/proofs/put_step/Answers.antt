@@ -14,20 +14,20 @@ bounds-out-at c = omega (arith, room_of c.in-Move.is c.args.at (length c.args.ou
 
 pub put_point-requires : goal.put_point-requires
 put_point-requires c = record {
-      fact_1 = lt-length-set c.args.out.now _ _ (omega (arith, room_of c.in-Move.is c.args.at (length c.args.out.now) c.requires.fact_1));
-      fact_2 = (numbers_of c.in-Move.is c.requires.fact_2).0;
-      fact_3 = (numbers_of c.in-Move.is c.requires.fact_2).1;
-    }
+  fact_1 = lt-length-set c.args.out.now _ _ (omega (arith, room_of c.in-Move.is c.args.at (length c.args.out.now) c.requires.fact_1));
+  fact_2 = (numbers_of c.in-Move.is c.requires.fact_2).0;
+  fact_3 = (numbers_of c.in-Move.is c.requires.fact_2).1;
+}
 
 pub bounds-out-at-in-Line : goal.bounds-out-at-in-Line
 bounds-out-at-in-Line c = omega (arith, room_of c.in-Line.is c.args.at (length c.args.out.now) c.requires.fact_1)
 
 pub put_point-requires-in-Line : goal.put_point-requires-in-Line
 put_point-requires-in-Line c = record {
-      fact_1 = lt-length-set c.args.out.now _ _ (omega (arith, room_of c.in-Line.is c.args.at (length c.args.out.now) c.requires.fact_1));
-      fact_2 = (numbers_of c.in-Line.is c.requires.fact_2).0;
-      fact_3 = (numbers_of c.in-Line.is c.requires.fact_2).1;
-    }
+  fact_1 = lt-length-set c.args.out.now _ _ (omega (arith, room_of c.in-Line.is c.args.at (length c.args.out.now) c.requires.fact_1));
+  fact_2 = (numbers_of c.in-Line.is c.requires.fact_2).0;
+  fact_3 = (numbers_of c.in-Line.is c.requires.fact_2).1;
+}
 
 pub bounds-out-at-in-Close : goal.bounds-out-at-in-Close
 bounds-out-at-in-Close c = omega (arith, room_of c.in-Close.is c.args.at (length c.args.out.now) c.requires.fact_1)

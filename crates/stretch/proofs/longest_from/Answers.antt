@@ -1,5 +1,4 @@
 -- `longest_from` ends: the edges are counted. Assumes nothing.
-use Prim.Native.Nat.{◌-◌}
 use Rattle.checks.proofs.Pairs.{small_of}
 use Rattle.stretch.proofs.longest_from.Goals as goal
 

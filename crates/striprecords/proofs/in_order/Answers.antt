@@ -1,5 +1,4 @@
 -- One record after another that leads on. The measure: records are left. Assumes nothing.
-use Prim.Native.Nat.{◌-◌}
 use native.Mathlib.Omega.{arith}
 use Rattle.striprecords.proofs.Orders.{order_none, order_more}
 use Rattle.striprecords.proofs.in_order.Goals as goal

@@ -5,6 +5,6 @@ use Rattle.striprecords.proofs.word.Goals as goal
 
 pub returns : goal.returns
 returns c = record {
-      fact_1 = refl;
-      fact_2 = omega (arith, c.type_inv.s c.args.i);
-    }
+  fact_1 = refl;
+  fact_2 = omega (arith, c.type_inv.s c.args.i);
+}

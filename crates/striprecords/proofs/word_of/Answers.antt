@@ -7,6 +7,6 @@ use Rattle.striprecords.proofs.word_of.Goals as goal
 
 pub returns : goal.returns
 returns c = record {
-      fact_1 = c.word.ensures.fact_1 ∙ ap (λ (x : ℕ). get_or c.args.s.now x 0) (omega arith);
-      fact_2 = c.word.ensures.fact_2;
-    }
+  fact_1 = c.word.ensures.fact_1 ∙ ap (λ (x : ℕ). get_or c.args.s.now x 0) (omega arith);
+  fact_2 = c.word.ensures.fact_2;
+}

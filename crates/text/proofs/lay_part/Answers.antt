@@ -9,6 +9,6 @@ slice_bounds-lay_strip-end-2 c = sym (part_long c.args.strip.now c.strip_words-n
 
 pub lay_strip-requires : goal.lay_strip-requires
 lay_strip-requires c = record {
-      fact_1 = part_serves c.args.strip.now c.strip_words-n.ensures c.requires.fact_1;
-      fact_2 = search rules;
-    }
+  fact_1 = part_serves c.args.strip.now c.strip_words-n.ensures c.requires.fact_1;
+  fact_2 = search rules;
+}

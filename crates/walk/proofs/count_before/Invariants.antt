@@ -1,6 +1,5 @@
 -- `count_before` meets its contract: runs are passed over from the last one on, as long as they are in column w or later.
 -- Assumes nothing.
-use Prim.Native.Nat.{◌-◌}
 use Rattle.walk.proofs.Jumps.{Looking}
 use Rattle.walk.proofs.count_before.Given as goal
 

@@ -3,7 +3,7 @@
 -- come to an end. Runs past the last column count for nothing.
 -- Assumes nothing.
 use native.Mathlib.Omega.{arith}
-use Prim.Native.Nat.{◌-◌, ◌*◌}
+use Prim.Native.Nat.{◌*◌}
 use Rattle.walk.proofs.Jumps.{going_start, going_clear, going_jump, going_stop, going_end, falls, run_column_lem, least_all, none_all}
 use Rattle.walk.proofs.Counts.{count_start, count_end, count_stop, count_jump, steps_all}
 use Rattle.tries.proofs.Parts.{column_part, clear_whole, lands_whole}
@@ -65,9 +65,9 @@ bounds-runs-k-in-loop-k-2 c = omega (arith, c.runs_before-p.ensures.few, c.requi
 
 pub try_run-requires : goal.try_run-requires
 try_run-requires c = let pre = c.requires in let k = c.loop-k.k in let g = c.loop-k.invariant.0 in let b = c.runs_before-p.ensures in record {
-      fact_1 = column_part c.args.first.now _ _ _ _ (omega (arith, c.runs_before-p.ensures.inside c.loop-k.k (omega arith), c.requires.fact_2, c.requires.fact_1.table.flat.firsts)) (run_column_lem pre.fact_1 _ (omega (arith, pre.fact_2)) b (omega arith));
-      fact_2 = (pre.fact_1.piece.some k (omega (arith, b.few)), omega (arith, pre.fact_1.piece.tall k (omega (arith, b.few)), pre.fact_1.over, g.low, g.high, pre.fact_2), g.low);
-    }
+  fact_1 = column_part c.args.first.now _ _ _ _ (omega (arith, c.runs_before-p.ensures.inside c.loop-k.k (omega arith), c.requires.fact_2, c.requires.fact_1.table.flat.firsts)) (run_column_lem pre.fact_1 _ (omega (arith, pre.fact_2)) b (omega arith));
+  fact_2 = (pre.fact_1.piece.some k (omega (arith, b.few)), omega (arith, pre.fact_1.piece.tall k (omega (arith, b.few)), pre.fact_1.over, g.low, g.high, pre.fact_2), g.low);
+}
 
 pub loop-k-smaller-in-Clear : goal.loop-k-smaller-in-Clear
 loop-k-smaller-in-Clear c = omega arith

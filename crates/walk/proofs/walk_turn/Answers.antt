@@ -2,7 +2,6 @@
 -- Assumes nothing.
 use mathlib.Core.Logic.{inl, inr}
 use native.Mathlib.Omega.{arith}
-use Prim.Native.Nat.{◌-◌}
 use Rattle.walk.proofs.Counts.{turn_start, turn_more, turn_found, turn_end, none_walked}
 use Rattle.walk.proofs.walk_turn.Goals as goal
 

@@ -1,6 +1,5 @@
 -- Zeros are stored one after another. Assumes nothing.
 use mathlib.Core.Path.{refl}
-use Prim.Native.Nat.{◌-◌}
 use native.Mathlib.Omega.{arith}
 use borrow.Author.Rules.{rules}
 use Rattle.words.proofs.Zeros.{zeros_start, zeros_next, zeros_all}

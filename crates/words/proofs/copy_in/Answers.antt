@@ -1,5 +1,4 @@
 -- The words still to copy, stored where they go, give the whole. Assumes nothing.
-use Prim.Native.Nat.{◌-◌}
 use native.Mathlib.Omega.{arith}
 use Rattle.words.proofs.Copying.{copy_next, copy_end, copy_start}
 use Rattle.words.proofs.copy_in.Goals as goal
