@@ -38,7 +38,7 @@ fn look(strip: &[u16], o: &[u16], mask: u16, work: &mut [u16]) -> PlacingTries
 
 // The ask call. The strip after it is the strip before it.
 pub fn ask(strip: &[u16], o: &[u16], mask: u16, work: &mut [u16]) -> AskingTries
-    ensures { AskStep strip.now o.now mask work.old result.asking result.tries strip.now work.new }
+    ensures { AskStep strip.now o.now mask work.old result.asking result.tries strip.exit.now work.new }
 {
     let x = look(strip, o, mask, work);
     words::clear(work);

@@ -152,7 +152,7 @@ pub fn place_bytes(strip: &mut [u8], outline: &[u8], mask: u16, work: &mut [u8])
 
 // The ask call: place on a copy of the strip that is not put back.
 pub fn ask_bytes(strip: &[u8], outline: &[u8], mask: u16, work: &mut [u8]) -> AskingTries
-    ensures { AskBytesStep strip.now outline.now mask work.old result.asking result.tries strip.now work.new }
+    ensures { AskBytesStep strip.now outline.now mask work.old result.asking result.tries strip.exit.now work.new }
 {
     let mut words = [0u16; STRIP_ROOM];
     let n = lesser(strip.len() / 2, STRIP_ROOM);

@@ -1,7 +1,7 @@
 // The outline of a path in a file that a line of a text names.
 #![tactic(auto)]
 
-ghost use Rattle.std.specs.Prelude.{◌+◌, ◌≤◌, length};
+ghost use Rattle.std.specs.Prelude.{◌≡◌, ◌+◌, ◌≤◌, length, take};
 ghost use Rattle.pathfile.specs.Within.{Within, Fit};
 
 use pathdefs::PathReading;
@@ -61,7 +61,8 @@ fn put_path(path: &[u8], list: &mut [u16], to: usize) -> Outline
 
 // The first bytes of the file with this name, and their number: 0 also where it cannot be read.
 fn file_bytes<R: Files>(rt: &R, name: &[u8], bytes: &mut [u8]) -> usize
-    ensures { result ≤ length bytes.new }
+    ensures within { result ≤ length bytes.new }
+    ensures prefix { result ≡ length (take result bytes.new) }
 {
     let Ok(path) = std::str::from_utf8(name) else {
         return 0;

@@ -2,7 +2,7 @@
 -- open::open OpenStep, cover::cover CoverStep, place::place PlaceStep, ask::ask AskStep, commit::commit CommitStep, reads::read ReadStep,
 -- writes::write WriteStep, laying::lay LayStep, retrace::retrace RetraceStep, readpath::read_path PathReadStep, writepath::write_path
 -- PathWriteStep; vikelodu's C functions the same steps, packed (packing/specs/Steps); text::lay_text, what program lay prints, lay_text;
--- outline::x_at and y_at read_x and readY. So the promises hold of every program whose calls keep these contracts. Assumes nothing.
+-- outline::x_at and y_at read_x and read_y. So the promises hold of every program whose calls keep these contracts. Assumes nothing.
 use Rattle.std.specs.Prelude.{◌↔◌, List, ℕ, ◌≤◌, ◌<◌}
 use Rattle.defs.specs.Meaning.Limits.{most_turn}
 use Rattle.defs.specs.Meaning.Outline.{sides}

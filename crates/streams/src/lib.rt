@@ -1,14 +1,14 @@
 // Bytes of a stream, read until it ends or the buffer is full.
 #![tactic(auto)]
 
-ghost use Rattle.std.specs.Prelude.{◌≤◌, length, IfOk};
+ghost use Rattle.std.specs.Io.{ReadsAtMost};
 
 use std::io;
 use std::io::Read;
 
 // The number of bytes read, which stand at the start of the buffer.
 pub fn read_full<R: Read>(from: &mut R, bytes: &mut [u8]) -> io::Result<usize>
-    ensures { IfOk result (λ n. n ≤ length bytes.new) }
+    ensures { ReadsAtMost result bytes.new }
 {
     let mut done = 0;
     while done < bytes.len() {

@@ -56,7 +56,7 @@ pub extern "C" fn vikelodu_ask_5(
     mask: u16,
     work: &mut [u16],
 ) -> Tried
-    ensures { AskPacked strip.now outline.now mask work.old result.answer result.tries strip.now work.new }
+    ensures { AskPacked strip.now outline.now mask work.old result.answer result.tries strip.exit.now work.new }
 {
     let a = ask::ask(strip, outline, mask, work);
     let p = a.asking;
@@ -209,7 +209,7 @@ pub extern "C" fn vikelodu_ask_bytes_5(
     mask: u16,
     work: &mut [u8],
 ) -> Tried
-    ensures { AskBytesPacked strip.now outline.now mask work.old result.answer result.tries strip.now work.new }
+    ensures { AskBytesPacked strip.now outline.now mask work.old result.answer result.tries strip.exit.now work.new }
 {
     let a = byteput::ask_bytes(strip, outline, mask, work);
     let p = a.asking;

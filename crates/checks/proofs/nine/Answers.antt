@@ -1,4 +1,3 @@
--- src/lib.rt:51:9
 use Rattle.defs.specs.Computing.Calls.{q9b}
 use borrow.Author.Tests.{le-leb, lt-leb}
 use Rattle.checks.proofs.nine.Goals as goal
@@ -7,7 +6,6 @@ pub returns-then-mask-ge1 : goal.returns-then-mask-ge1
 unfolding q9b
 returns-then-mask-ge1 c = simp (le-leb _ _ c.if-mask-ge1.true)
 
--- src/lib.rt:47:1
 pub returns : goal.returns
 unfolding q9b
 returns c = simp (lt-leb _ _ c.if-mask-ge1.false)

@@ -1,25 +1,20 @@
--- src/lib.rt:93:21
 use Rattle.checks.proofs.Pairs.{span_product}
 use native.Mathlib.Omega.{arith}
 use borrow.Author.Tests.{lt-ltb, le-ltb}
 use Rattle.slabs.specs.Change.{passesb}
 use Rattle.checks.proofs.passes.Goals as goal
 
--- src/lib.rt:95:21
 pub overflow_mul-result : goal.overflow_mul-result
 overflow_mul-result c = omega (arith, span_product c.requires)
 
--- src/lib.rt:95:13
 pub returns-then-b1-a1 : goal.returns-then-b1-a1
 unfolding passesb
 returns-then-b1-a1 c = simp (lt-ltb _ _ c.if-a0-b0.true, lt-ltb _ _ c.if-b1-a1.true)
 
--- src/lib.rt:87:1
 pub returns-else-b1-a1 : goal.returns-else-b1-a1
 unfolding passesb
 returns-else-b1-a1 c = simp (lt-ltb _ _ c.if-a0-b0.true, le-ltb _ _ c.if-b1-a1.false)
 
--- src/lib.rt:87:1
 pub returns-else-a0-b0 : goal.returns-else-a0-b0
 unfolding passesb
 returns-else-a0-b0 c = simp (le-ltb _ _ c.if-a0-b0.false)

@@ -1,12 +1,9 @@
--- src/lib.rt:35:8
 use borrow.Author.Rules.{rules}
 use borrow.Author.Tests.{eq-eqb, ne_eqb}
 use Rattle.outline.proofs.next.Goals as goal
 
--- src/lib.rt:36:9
 pub returns-then-i-n : goal.returns-then-i-n
 returns-then-i-n c = (simp (eq-eqb _ _ c.if-i-n.true), search rules)
 
--- src/lib.rt:31:1
 pub returns : goal.returns
 returns c = (simp (ne_eqb _ _ c.if-i-n.false), search rules)
