@@ -104,6 +104,7 @@ pub fn records_of(n: u16, words: usize) -> usize
 }
 
 // Question 4: the length is 5 + N + 4Q for some Q of 1 to 16,000.
+#[tactic(auto, unfolding(defs::specs::Computing::Words::lengthb))]
 pub fn length_fits(n: u16, words: usize) -> bool
     ensures { result ≡ lengthb n words }
 {

@@ -228,6 +228,7 @@ fn put_shape(
 }
 
 // The bounds of a placed piece's outline: each that was placed passes 7 and 8, and its turn is one of four.
+#[tactic(auto, using(crate::proofs::Points::drawable))]
 fn placed_bounds(o: &[u16], p: Position) -> Checked
     ensures { Drawable o.now p result }
 {
