@@ -564,7 +564,10 @@ fn long_rows(random: &mut Random, table: &mut Table) {
     }));
     let (placed, used) = (laid.totals.placed, laid.totals.used);
     let r = job.figures.resolution;
-    table.row(&format!("used_in {r} {pieces} {entries}"), &used.to_string());
+    table.row(
+        &format!("used_in {r} {pieces} {entries}"),
+        &used.to_string(),
+    );
     let text = lay_text(&job.sheet());
     let last = format!("{}\n", text.lines().last().expect("a line"));
     table.row(
