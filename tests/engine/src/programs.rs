@@ -5,7 +5,7 @@ use std::io::{ErrorKind, Write};
 use std::path::Path;
 use std::process::{Command, Stdio};
 
-/// A program under target/bin, which `rt check` builds.
+/// A program crates/NAME/out/NAME, which `tests/build NAME` and `rt ci` write.
 #[derive(Clone, Copy, Debug)]
 pub struct Program {
     name: &'static str,
@@ -40,13 +40,14 @@ pub struct Printed {
 impl Program {
     /// What the program prints for this input, all of it by the end.
     pub fn run(&self, input: &[u8]) -> Printed {
-        let folder = Path::new(env!("CARGO_MANIFEST_DIR")).join("../../target/bin");
-        let mut child = Command::new(folder.join(self.name))
+        let name = self.name;
+        let crates = Path::new(env!("CARGO_MANIFEST_DIR")).join("../../crates");
+        let mut child = Command::new(crates.join(name).join("out").join(name))
             .stdin(Stdio::piped())
             .stdout(Stdio::piped())
             .stderr(Stdio::piped())
             .spawn()
-            .unwrap_or_else(|error| panic!("target/bin/{}: {error}", self.name));
+            .unwrap_or_else(|error| panic!("crates/{name}/out/{name}: {error}"));
         let mut stdin = child.stdin.take().expect("piped");
         match stdin.write_all(input) {
             // It has ended, and left the rest.

@@ -27,47 +27,47 @@ use std::cmp::Ordering;
 const HEAD: &str = "\
 -- Rows made by the reference program: each holds by computation if the definitions agree with it.
 -- Assumes nothing.
-use mathlib.Core.Path.{_≡_, refl}
+use mathlib.Core.Path.{◌≡◌, refl}
 use mathlib.Core.Bool.{true, false}
-use mathlib.Core.List.{List, [], _∷_}
+use mathlib.Core.List.{List, [], ◌∷◌}
 use Prim.Native.Nat.{ℕ}
-use Rattle·defs.specs.declared.Position.{Position}
-use Rattle·defs.specs.declared.Opening.the-variants.{Opened, Refused as NotOpened}
-use Rattle·defs.specs.declared.Covering.the-variants.{Runs, Refused as NotCovered}
-use Rattle·defs.specs.declared.Placing.the-variants.{Placed, Refused as NotPlaced}
-use Rattle·defs.specs.declared.Asking.the-variants.{Found, Refused as NotFound}
-use Rattle·defs.specs.declared.Committing.the-variants.{Committed, Refused as NotCommitted}
-use Rattle·defs.specs.declared.Reading.the-variants.{Read, Refused as NotRead}
-use Rattle·defs.specs.declared.Writing.the-variants.{Written, Refused as NotWritten}
-use Rattle·defs.specs.declared.Laying.the-variants.{Laid, Refused as NotLaid}
-use Rattle·defs.specs.declared.Fate.the-variants.{Placed as FatePlaced, Refused as FateRefused}
-use Rattle·defs.specs.declared.Retracing.the-variants.{Nowhere, Twice, Refused as NotTraced}
-use Rattle·defs.specs.Computing.Test.{listFrom}
-use Rattle·defs.specs.Computing.Cells.{Rows}
-use Rattle·defs.specs.Computing.Words.{wellFormedb, columnsRuns}
-use Rattle·defs.specs.Computing.Search.{position}
-use Rattle·defs.specs.Computing.Walk.{turnWalk, triesBound}
-use Rattle·defs.specs.Computing.Calls.{refusal, openAnswer, coverAnswer, coverOutput, placeAnswer, placedStrip, askAnswer, placeTries, commitAnswer, listAnswers, listTries, Lent}
-use Rattle·defs.specs.Computing.Sheets.{readAnswer, readOutput, writeAnswer, writeOutput}
-use Rattle·defs.specs.Computing.Lay.{usedIn, layAnswer, layOutput}
-use Rattle·defs.specs.Computing.Ascii.{ascii}
-use Rattle·defs.specs.Computing.Text.{totalsLine, layText}
-use Rattle·defs.specs.Computing.Runs.{runs}
-use Rattle·pathdefs.specs.declared.PathReading.the-variants.{Words, Refused as NotPath}
-use Rattle·pathdefs.specs.Computing.PathRuns.{pathRuns}
-use Rattle·pathdefs.specs.Computing.Paths.{readPathAnswer, readPathOutput, writePathAnswer, writePathOutput}
-use Rattle·strokes.specs.Retrace.{riseAlike, level, runAlong, standAlong, sharesb, sharedAfter, firstPair, retraceAnswer}
+use Rattle.defs.specs.declared.Position.{Position}
+use Rattle.defs.specs.declared.Opening.TheVariants.{Opened, Refused as NotOpened}
+use Rattle.defs.specs.declared.Covering.TheVariants.{Runs, Refused as NotCovered}
+use Rattle.defs.specs.declared.Placing.TheVariants.{Placed, Refused as NotPlaced}
+use Rattle.defs.specs.declared.Asking.TheVariants.{Found, Refused as NotFound}
+use Rattle.defs.specs.declared.Committing.TheVariants.{Committed, Refused as NotCommitted}
+use Rattle.defs.specs.declared.Reading.TheVariants.{Read, Refused as NotRead}
+use Rattle.defs.specs.declared.Writing.TheVariants.{Written, Refused as NotWritten}
+use Rattle.defs.specs.declared.Laying.TheVariants.{Laid, Refused as NotLaid}
+use Rattle.defs.specs.declared.Fate.TheVariants.{Placed as FatePlaced, Refused as FateRefused}
+use Rattle.defs.specs.declared.Retracing.TheVariants.{Nowhere, Twice, Refused as NotTraced}
+use Rattle.defs.specs.Computing.Test.{list_from}
+use Rattle.defs.specs.Computing.Cells.{Rows}
+use Rattle.defs.specs.Computing.Words.{well_formedb, columns_runs}
+use Rattle.defs.specs.Computing.Search.{position}
+use Rattle.defs.specs.Computing.Walk.{turn_walk, tries_bound}
+use Rattle.defs.specs.Computing.Calls.{refusal, open_answer, cover_answer, cover_output, place_answer, placed_strip, ask_answer, place_tries, commit_answer, list_answers, list_tries, Lent}
+use Rattle.defs.specs.Computing.Sheets.{read_answer, read_output, write_answer, write_output}
+use Rattle.defs.specs.Computing.Lay.{used_in, lay_answer, lay_output}
+use Rattle.defs.specs.Computing.Ascii.{ascii}
+use Rattle.defs.specs.Computing.Text.{totals_line, lay_text}
+use Rattle.defs.specs.Computing.Runs.{runs}
+use Rattle.pathdefs.specs.declared.PathReading.TheVariants.{Words, Refused as NotPath}
+use Rattle.pathdefs.specs.Computing.PathRuns.{path_runs}
+use Rattle.pathdefs.specs.Computing.Paths.{read_path_answer, read_path_output, write_path_answer, write_path_output}
+use Rattle.strokes.specs.Retrace.{rise_alike, level, run_along, stand_along, sharesb, shared_after, first_pair, retrace_answer}
 
-infixl 90 _to_
-abbrev _to_ : ℕ → ℕ → Rows
-_to_ l h = record { low = l; high = h }
+infixl 90 ◌to◌
+abbrev ◌to◌ : ℕ → ℕ → Rows
+◌to◌ l h = record { low = l; high = h }
 
 abbrev piece : List ℕ → ℕ → ℕ → Lent
 piece o mask words = record { outline = o; mask = mask; words = words }
 
 -- what the rows of the retrace call open
 retraces : Unit {0}
-unfolding runs retraceAnswer firstPair sharedAfter sharesb runAlong standAlong riseAlike level
+unfolding runs retrace_answer first_pair shared_after sharesb run_along stand_along rise_alike level
 retraces = tt
 ";
 
@@ -84,7 +84,7 @@ impl Table {
     /// A row that opens other definitions.
     fn row_of(&mut self, opened: &str, computed: &str, given: &str) {
         self.rows += 1;
-        let name = format!("row-{}", self.rows);
+        let name = format!("row_{}", self.rows);
         println!("\n{name} : {computed} ≡ {given}\nunfolding {opened}\n{name} = refl");
     }
 }
@@ -168,10 +168,10 @@ fn cover_row(random: &mut Random, table: &mut Table) {
     };
     let outline = numbers(&outline);
     table.row(
-        &format!("coverAnswer {outline} {turn} {r} {g} {length}"),
+        &format!("cover_answer {outline} {turn} {r} {g} {length}"),
         &answer,
     );
-    let left = format!("coverOutput {outline} {turn} {r} {g} {before} ({answer})");
+    let left = format!("cover_output {outline} {turn} {r} {g} {before} ({answer})");
     table.row(&left, &numbers(&output));
 }
 
@@ -185,7 +185,7 @@ fn open_row(random: &mut Random, table: &mut Table) {
         Ok(()) => String::from("Opened"),
         Err(refusal) => refused("NotOpened", refusal),
     };
-    table.row(&format!("openAnswer {w} {r} {n} {g} {length}"), &answer);
+    table.row(&format!("open_answer {w} {r} {n} {g} {length}"), &answer);
 }
 
 /// W, R and N in each call that asks about all three, and the gap where it is
@@ -209,26 +209,26 @@ fn limits_row(random: &mut Random, table: &mut Table, wrong: usize) {
     let sheet = Job { figures, pieces }.sheet();
     let refusal = open(w, r, n, g, &mut []).expect_err("out of limits");
     table.row(
-        &format!("openAnswer {w} {r} {n} {g} 0"),
+        &format!("open_answer {w} {r} {n} {g} 0"),
         &refused("NotOpened", refusal),
     );
     let refusal = write(w, r, n, &words, &mut [9; 200]).expect_err("out of limits");
     table.row(
-        &format!("writeAnswer {w} {r} {n} {} 200", numbers(&words)),
+        &format!("write_answer {w} {r} {n} {} 200", numbers(&words)),
         &refused("NotWritten", refusal),
     );
     let (refusal, bytes) = (read(&sheet, &mut [9; 40]), numbers(&sheet));
     table.row(
-        &format!("readAnswer {bytes} 40"),
+        &format!("read_answer {bytes} 40"),
         &refused("NotRead", refusal.expect_err("out of limits")),
     );
     let refusal = lay(&sheet, g, &mut [3; 30], &mut [9; 4], &mut [1; 40]);
     table.row(
-        &format!("layAnswer {bytes} {g} 30 4 40"),
+        &format!("lay_answer {bytes} {g} 30 4 40"),
         &refused("NotLaid", refusal.expect_err("out of limits")),
     );
     let text = lay_text(&sheet);
-    table.row(&format!("layText {bytes}"), &format!("ascii {text:?}"));
+    table.row(&format!("lay_text {bytes}"), &format!("ascii {text:?}"));
 }
 
 /// A strip just opened.
@@ -253,8 +253,8 @@ fn list_row(random: &mut Random, table: &mut Table) {
         tries.push(tried.tries);
     }
     let calls = format!("{w} {r} {n} {g} {q} {}", list(calls));
-    table.row(&format!("listAnswers {calls}"), &list(answers));
-    table.row(&format!("listTries {calls}"), &numbers(&tries));
+    table.row(&format!("list_answers {calls}"), &list(answers));
+    table.row(&format!("list_tries {calls}"), &numbers(&tries));
 }
 
 /// A strip with its records in any order.
@@ -277,9 +277,9 @@ fn place_row(random: &mut Random, table: &mut Table) {
     let answer = placed(tried.answer);
     let (strip, outline) = (numbers(&strip), numbers(&outline));
     let call = format!("{strip} {outline} {mask} {}", work.len());
-    table.row(&format!("placeAnswer {call}"), &answer);
-    table.row(&format!("placeTries {call}"), &tried.tries.to_string());
-    let left = format!("columnsRuns (placedStrip {strip} {outline} ({answer}))");
+    table.row(&format!("place_answer {call}"), &answer);
+    table.row(&format!("place_tries {call}"), &tried.tries.to_string());
+    let left = format!("columns_runs (placed_strip {strip} {outline} ({answer}))");
     table.row(&left, &columns(&after));
 }
 
@@ -301,8 +301,8 @@ fn ask_row(random: &mut Random, table: &mut Table) {
     };
     let (strip, outline) = (numbers(&strip), numbers(&outline));
     let call = format!("{strip} {outline} {mask} {}", work.len());
-    table.row(&format!("askAnswer {call}"), &answer);
-    table.row(&format!("placeTries {call}"), &tried.tries.to_string());
+    table.row(&format!("ask_answer {call}"), &answer);
+    table.row(&format!("place_tries {call}"), &tried.tries.to_string());
 }
 
 /// The heights tried in each column, and the most that the tries may be, on a strip
@@ -343,10 +343,10 @@ fn walk_rows(random: &mut Random, table: &mut Table) {
         let heights = heights
             .iter()
             .map(|tried| list(tried.iter().map(i64::to_string)));
-        table.row(&format!("turnWalk {held} {}", piece.turn), &list(heights));
+        table.row(&format!("turn_walk {held} {}", piece.turn), &list(heights));
     }
     let most = most_tries(&board, &pieces, pairs);
-    table.row(&format!("triesBound {held} {mask}"), &most.to_string());
+    table.row(&format!("tries_bound {held} {mask}"), &most.to_string());
 }
 
 /// One commit of each kind, and one at the answer of an ask; what they leave is the
@@ -370,10 +370,10 @@ fn commit_rows(random: &mut Random, table: &mut Table) {
         let mut after = strip.clone();
         let answer = commit(&mut after, &outline, at, &mut work);
         let (strip, outline, at) = (numbers(&strip), numbers(&outline), position(at));
-        let call = format!("commitAnswer {strip} {outline} {at} {}", work.len());
+        let call = format!("commit_answer {strip} {outline} {at} {}", work.len());
         table.row(&call, &committed(answer));
         if answer.is_ok() {
-            let left = format!("columnsRuns (placedStrip {strip} {outline} (Placed {at}))");
+            let left = format!("columns_runs (placed_strip {strip} {outline} (Placed {at}))");
             table.row(&left, &columns(&after));
         }
     }
@@ -412,12 +412,12 @@ fn every_commit_rows(random: &mut Random, table: &mut Table) {
         let answers =
             list((0..n + 2).map(|column| list((0..w + 2).map(|height| answer(column, height)))));
         let one = format!(
-            "commitAnswer {} {} (position {turn} c y) 30",
+            "commit_answer {} {} (position {turn} c y) 30",
             numbers(&strip),
             numbers(&outline)
         );
         let (columns, heights) = (n + 2, w + 2);
-        let all = format!("listFrom (λ c. listFrom (λ y. {one}) 0 {heights}) 0 {columns}");
+        let all = format!("list_from (λ c. list_from (λ y. {one}) 0 {heights}) 0 {columns}");
         table.row(&all, &answers);
     }
 }
@@ -436,7 +436,7 @@ fn strip_row(random: &mut Random, table: &mut Table) {
         }
     };
     let answer = if well_formed(&strip) { "true" } else { "false" };
-    table.row(&format!("wellFormedb {}", numbers(&strip)), answer);
+    table.row(&format!("well_formedb {}", numbers(&strip)), answer);
 }
 
 fn read_row(random: &mut Random, table: &mut Table) {
@@ -466,9 +466,9 @@ fn read_row(random: &mut Random, table: &mut Table) {
         Err(refusal) => refused("NotRead", refusal),
     };
     let sheet = numbers(&sheet);
-    table.row(&format!("readAnswer {sheet} {length}"), &answer);
+    table.row(&format!("read_answer {sheet} {length}"), &answer);
     table.row(
-        &format!("readOutput {sheet} {before} ({answer})"),
+        &format!("read_output {sheet} {before} ({answer})"),
         &numbers(&output),
     );
 }
@@ -500,9 +500,9 @@ fn write_row(random: &mut Random, table: &mut Table) {
     };
     let words = numbers(&words);
     let figures = format!("{width} {resolution} {columns}");
-    table.row(&format!("writeAnswer {figures} {words} {length}"), &answer);
+    table.row(&format!("write_answer {figures} {words} {length}"), &answer);
     table.row(
-        &format!("writeOutput {figures} {words} {before} ({answer})"),
+        &format!("write_output {figures} {words} {before} ({answer})"),
         &numbers(&output),
     );
 }
@@ -564,11 +564,14 @@ fn long_rows(random: &mut Random, table: &mut Table) {
     }));
     let (placed, used) = (laid.totals.placed, laid.totals.used);
     let r = job.figures.resolution;
-    table.row(&format!("usedIn {r} {pieces} {entries}"), &used.to_string());
+    table.row(
+        &format!("used_in {r} {pieces} {entries}"),
+        &used.to_string(),
+    );
     let text = lay_text(&job.sheet());
     let last = format!("{}\n", text.lines().last().expect("a line"));
     table.row(
-        &format!("totalsLine (record {{ placed = {placed}; used = {used} }})"),
+        &format!("totals_line (record {{ placed = {placed}; used = {used} }})"),
         &format!("ascii {last:?}"),
     );
 }
@@ -594,17 +597,17 @@ fn lay_rows_of(random: &mut Random, table: &mut Table, job: &Job) {
     let sheet = numbers(&sheet);
     table.row(
         &format!(
-            "layAnswer {sheet} {g} {} {} {}",
+            "lay_answer {sheet} {g} {} {} {}",
             lengths.0, lengths.1, lengths.2
         ),
         &answer,
     );
     let left = format!(
-        "layOutput {sheet} {g} {before} {} {} ({answer})",
+        "lay_output {sheet} {g} {before} {} {} ({answer})",
         lengths.0, lengths.2
     );
     table.row(&left, &numbers(&output));
-    table.row(&format!("layText {sheet}"), &format!("ascii {text:?}"));
+    table.row(&format!("lay_text {sheet}"), &format!("ascii {text:?}"));
 }
 
 /// What an outline draws twice, of any size but few vertices.
@@ -631,7 +634,7 @@ fn retrace_row(random: &mut Random, table: &mut Table) {
     };
     table.row_of(
         "retraces",
-        &format!("retraceAnswer {}", numbers(&words)),
+        &format!("retrace_answer {}", numbers(&words)),
         &answer,
     );
 }
@@ -656,13 +659,13 @@ fn read_path_row(random: &mut Random, table: &mut Table) {
     };
     let path = numbers(&path);
     table.row_of(
-        "pathRuns",
-        &format!("readPathAnswer {path} {room}"),
+        "path_runs",
+        &format!("read_path_answer {path} {room}"),
         &answer,
     );
     table.row_of(
-        "pathRuns",
-        &format!("readPathOutput {path} {before} ({answer})"),
+        "path_runs",
+        &format!("read_path_output {path} {before} ({answer})"),
         &numbers(&output),
     );
 }
@@ -685,13 +688,13 @@ fn write_path_row(random: &mut Random, table: &mut Table) {
     };
     let words = numbers(&words);
     table.row_of(
-        "pathRuns",
-        &format!("writePathAnswer {words} {room}"),
+        "path_runs",
+        &format!("write_path_answer {words} {room}"),
         &answer,
     );
     table.row_of(
-        "pathRuns",
-        &format!("writePathOutput {words} {before} ({answer})"),
+        "path_runs",
+        &format!("write_path_output {words} {before} ({answer})"),
         &numbers(&output),
     );
 }
