@@ -1,9 +1,11 @@
--- What is read lies within the buffer; each read that goes on leaves less room.
-use Rattle.std.proofs.Common.{length, ◌-◌, ◌≤◌}
+-- The bytes so far are the stream's, and each read that goes on leaves less room.
+use Rattle.std.proofs.Common.{◌-◌, ◌≤◌, length, take}
+use Rattle.std.specs.Io.KnownBytes.{Consumes}
 use Rattle.streams.proofs.read_full.Given as goal
 
 abbrev pub invariant-loop-done : goal.invariant-loop-done
-invariant-loop-done g l = l.done ≤ length l.bytes
+invariant-loop-done g l =
+    (l.done ≤ length l.bytes) × Consumes (g.R.Read.remaining l.initial.from) (g.R.Read.remaining l.from) (take l.done l.bytes)
 
 abbrev pub decreases-loop-done : goal.decreases-loop-done
 decreases-loop-done g l = length l.initial.bytes - l.done
