@@ -2,20 +2,10 @@
 #![tactic(auto)]
 
 ghost use Rattle.std.specs.Prelude.{◌≡◌, length};
-ghost use Rattle.defs.specs.Computing.Calls.{place_answer, place_tries, shown, AskStep};
+ghost use Rattle.defs.specs.Computing.Calls.{place_answer, place_tries, AskStep};
 
-use defs::{Asking, AskingTries, Placing, PlacingTries};
+use defs::PlacingTries;
 use wanted::Wanted;
-
-// The position that place would give, or its number.
-pub fn show(a: Placing) -> Asking
-    ensures { result ≡ shown a }
-{
-    match a {
-        Placing::Placed(p) => Asking::Found(p),
-        Placing::Refused(r) => Asking::Refused(r),
-    }
-}
 
 // Lends the next table, into which the piece is entered for question 14; it is entered nowhere else. Leaves words in the work buffer.
 fn look(strip: &[u16], o: &[u16], mask: u16, work: &mut [u16]) -> PlacingTries
@@ -37,14 +27,10 @@ fn look(strip: &[u16], o: &[u16], mask: u16, work: &mut [u16]) -> PlacingTries
 }
 
 // The ask call. The strip after it is the strip before it.
-pub fn ask(strip: &[u16], o: &[u16], mask: u16, work: &mut [u16]) -> AskingTries
-    ensures { AskStep strip.now o.now mask work.old result.asking result.tries strip.exit.now work.new }
+pub fn ask(strip: &[u16], o: &[u16], mask: u16, work: &mut [u16]) -> PlacingTries
+    ensures { AskStep strip.now o.now mask work.old result.placing result.tries strip.exit.now work.new }
 {
     let x = look(strip, o, mask, work);
     words::clear(work);
-    let a = x.placing;
-    AskingTries {
-        asking: show(a),
-        tries: x.tries,
-    }
+    x
 }

@@ -7,7 +7,6 @@ ghost use Rattle.outline.specs.Vertex.{Lent, BoundsOf};
 ghost use Rattle.checks.specs.Says.{Says};
 ghost use Rattle.asked.specs.Answers.{AllowedCell, SomeCell, order_no, FirstNo};
 
-use checks::Checked;
 use outline::Bounds;
 
 // Whether turn t is allowed and a cell is covered in it.
@@ -42,20 +41,20 @@ pub fn some_cell(o: &[u16], b: Bounds, mask: u16) -> bool
 }
 
 // Questions 7 to 10. `ninth` is the answer to 9.
-pub fn order(o: &[u16], ninth: bool, mask: u16) -> Checked
+pub fn order(o: &[u16], ninth: bool, mask: u16) -> Result<Bounds, u16>
     ensures { Says o.now (order_no o.now ninth mask) result }
 {
     match checks::bounds(o) {
-        Checked::No(n) => Checked::No(n),
-        Checked::Passes(b) => {
+        Err(n) => Err(n),
+        Ok(b) => {
             if ninth {
                 if checks::all_keep_order(o, b, mask) {
-                    Checked::Passes(b)
+                    Ok(b)
                 } else {
-                    Checked::No(10)
+                    Err(10)
                 }
             } else {
-                Checked::No(9)
+                Err(9)
             }
         }
     }
@@ -66,7 +65,7 @@ pub fn outline_no(o: &[u16], ninth: bool, mask: u16) -> u16
     ensures { FirstNo o.now ninth mask result }
 {
     match order(o, ninth, mask) {
-        Checked::No(n) => n,
-        Checked::Passes(b) => { if some_cell(o, b, mask) { 0 } else { 11 } }
+        Err(n) => n,
+        Ok(b) => { if some_cell(o, b, mask) { 0 } else { 11 } }
     }
 }

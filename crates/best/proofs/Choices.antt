@@ -3,11 +3,11 @@
 use mathlib.Core.Path.{◌≡◌, refl, sym, ap, ap₂, subst, ◌∙◌}
 use mathlib.Core.Bool.{Bool, true, false, cond}
 use mathlib.Core.List.{List}
-use mathlib.Core.Option.{Option, none, some}
 use Prim.Native.Nat.{ℕ, suc, ◌+◌, ◌*◌, ◌≤◌, ◌<◌, max}
 use native.Mathlib.Omega.{arith}
 use native.Mathlib.Nat.{mul-le-mul}
 use borrow.Author.Tests.{ne_eqb, le-ltb}
+use Rattle.std.specs.Prelude.{Option, Some, None}
 use Rattle.defs.specs.declared.Position.{Position}
 use Rattle.defs.specs.Meaning.Placing.{right_edge}
 use Rattle.defs.specs.Computing.Cells.{Rows, piece_runs, count_runs, allowedb, most_runs}
@@ -18,8 +18,6 @@ use Rattle.search.specs.declared.Way.{Way}
 use Rattle.search.specs.declared.Way.TheVariants.{Walk as ByWalk, Round}
 use Rattle.best.specs.Choice.{place_of, RankOf, Ranks, Finds, FindsTo, TriesAre, OneTurn, TurnsTo, Kept}
 use Rattle.ranks.specs.declared.Ranked.{Ranked}
-use Rattle.ranks.specs.declared.Choice.{Choice}
-use Rattle.ranks.specs.declared.Choice.TheVariants.{Chosen, Nowhere}
 use Rattle.ranks.specs.declared.Tried.{Tried}
 
 module _ (R : ℕ) (o : List ℕ) where
@@ -28,28 +26,28 @@ module _ (R : ℕ) (o : List ℕ) where
   beats_rank q p f g = rw (f.right, f.top, g.right, g.top) refl
 
   -- the better of two choices is the definition's
-  better_place : (a b : Choice) → Ranks R o a → Ranks R o b → place_of (better_by a b) ≡ better R o (place_of a) (place_of b)
+  better_place : (a b : Option Ranked) → Ranks R o a → Ranks R o b → place_of (better_by a b) ≡ better R o (place_of a) (place_of b)
   unfolding better
-  better_place Nowhere Nowhere f g = refl
-  better_place (Chosen p) Nowhere f g = refl
-  better_place Nowhere (Chosen q) f g = refl
-  better_place (Chosen p) (Chosen q) f g = rw (sym (beats_rank q p g f)) (go (beats_by q p))
+  better_place None None f g = refl
+  better_place (Some p) None f g = refl
+  better_place None (Some q) f g = refl
+  better_place (Some p) (Some q) f g = rw (sym (beats_rank q p g f)) (go (beats_by q p))
     where
-      go : (b : Bool) → place_of (cond b (Chosen q) (Chosen p)) ≡ cond b (some q.at) (some p.at)
+      go : (b : Bool) → place_of (cond b (Some q) (Some p)) ≡ cond b (Some q.at) (Some p.at)
       go true = refl
       go false = refl
 
-  better_ranks : (a b : Choice) → Ranks R o a → Ranks R o b → Ranks R o (better_by a b)
-  better_ranks Nowhere Nowhere f g = f
-  better_ranks (Chosen p) Nowhere f g = f
-  better_ranks Nowhere (Chosen q) f g = g
-  better_ranks (Chosen p) (Chosen q) f g = go (beats_by q p)
+  better_ranks : (a b : Option Ranked) → Ranks R o a → Ranks R o b → Ranks R o (better_by a b)
+  better_ranks None None f g = f
+  better_ranks (Some p) None f g = f
+  better_ranks None (Some q) f g = g
+  better_ranks (Some p) (Some q) f g = go (beats_by q p)
     where
-      go : (b : Bool) → Ranks R o (cond b (Chosen q) (Chosen p))
+      go : (b : Bool) → Ranks R o (cond b (Some q) (Some p))
       go true = g
       go false = f
 
-  better_finds : {x y : Option Position} {a b : Choice} → Finds R o x a → Finds R o y b → Finds R o (better R o x y) (better_by a b)
+  better_finds : {x y : Option Position} {a b : Option Ranked} → Finds R o x a → Finds R o y b → Finds R o (better R o x y) (better_by a b)
   better_finds {a = a} {b = b} f g =
       record {
         is = better_place a b f.ranks g.ranks ∙ ap₂ (better R o) f.is g.is;
@@ -62,20 +60,20 @@ module _ (R : ℕ) (o : List ℕ) where
   later_loses q p l = rw (le-ltb (right_edge R o q) (right_edge R o p) (omega arith), ne_eqb (right_edge R o q) (right_edge R o p) (λ e. omega arith)) refl
 
   -- and so a search that is stopped at the right edge of the best so far is as good as a whole one
-  better_to : (N : ℕ) → N * R ≤ 4294967295 → {x : Option Position} (y : Option Position) {a : Choice} (b : Choice) → Finds R o x a →
+  better_to : (N : ℕ) → N * R ≤ 4294967295 → {x : Option Position} (y : Option Position) {a : Option Ranked} (b : Option Ranked) → Finds R o x a →
       FindsTo R N o y (limit_of a) b → Finds R o (better R o x y) (better_by a b)
   unfolding better
-  better_to N fits y (Chosen q) f g = better_finds f g
-  better_to N fits y {a} Nowhere f g =
+  better_to N fits y (Some q) f g = better_finds f g
+  better_to N fits y {a} None f g =
       record { is = go a y f.ranks g ∙ ap (λ (z : Option Position). better R o z y) f.is; ranks = f.ranks }
     where
-      go : (a : Choice) (y : Option Position) → Ranks R o a → FindsTo R N o y (limit_of a) Nowhere →
+      go : (a : Option Ranked) (y : Option Position) → Ranks R o a → FindsTo R N o y (limit_of a) None →
           place_of a ≡ better R o (place_of a) y
-      go Nowhere none k h = refl
-      go Nowhere (some q) k h = absurd (omega (arith, (h q refl).0, (h q refl).1))
-      go (Chosen p) none k h = refl
-      go (Chosen p) (some q) k h =
-          ap (λ (b : Bool). cond b (some q) (some p.at))
+      go None None k h = refl
+      go None (Some q) k h = absurd (omega (arith, (h q refl).0, (h q refl).1))
+      go (Some p) None k h = refl
+      go (Some p) (Some q) k h =
+          ap (λ (b : Bool). cond b (Some q) (Some p.at))
           (sym (later_loses q p.at (omega (arith, k.right, (h q refl).0))))
 
 pub all_turns : {W R N g : ℕ} {held : List (List Rows)} {o : List ℕ} {mask t words : ℕ} {way : Way} {s : Tried} → t ≤ 4 → 4 ≤ t →
@@ -88,7 +86,7 @@ none_kept o R g work = record { stand = λ few. absurd (omega arith) }
 
 -- The turns below 0, and one turn more.
 pub no_turns : (W R N g : ℕ) (held : List (List Rows)) (o : List ℕ) (mask words : ℕ) (way : Way) →
-    TurnsTo W R N g held o mask 0 words way (record { most = 0; best = Nowhere; tries = 0; stands = record { turn = 4; runs = 0 } })
+    TurnsTo W R N g held o mask 0 words way (record { most = 0; best = None; tries = 0; stands = record { turn = 4; runs = 0 } })
 unfolding most_runs best_below tries_below
 no_turns W R N g held o mask words ByWalk =
     record { most = refl; few = omega arith; tries = λ h. refl; best = λ h. record { is = refl; ranks = tt } }
@@ -124,14 +122,14 @@ module _ {W R N g : ℕ} {held : List (List Rows)} {o : List ℕ} {mask t words 
                 tries_same way _ _ _ (ap tries_to (sym e)) (tries_more way _ _ _ _ (so_far.tries (omega arith)) (one.tries (omega arith)));
             best =
                 λ h.
-                subst (λ (b : Bool). Finds R o (better R o (best_below W R N g held o mask t) (cond b (first_free W R N g held o t) none)) (better_by s.best x.best))
+                subst (λ (b : Bool). Finds R o (better R o (best_below W R N g held o mask t) (cond b (first_free W R N g held o t) None)) (better_by s.best x.best))
                 (sym e) (better_to R o N (omega (arith, mul-le-mul many fine)) _ x.best (so_far.best (omega arith)) (rw stop at (one.best (omega arith))));
           }
 
-  better_none : (x : Option Position) → better R o x none ≡ x
+  better_none : (x : Option Position) → better R o x None ≡ x
   unfolding better
-  better_none none = refl
-  better_none (some p) = refl
+  better_none None = refl
+  better_none (Some p) = refl
 
   keep : (n : ℕ) → n ≡ max n 0
   keep n = omega arith
@@ -155,6 +153,6 @@ module _ {W R N g : ℕ} {held : List (List Rows)} {o : List ℕ} {mask t words 
                 λ h.
                 subst (λ (x : Option Position). Finds R o x s.best)
                 (sym (better_none (best_below W R N g held o mask t)) ∙
-                ap (λ (b : Bool). better R o (best_below W R N g held o mask t) (cond b (first_free W R N g held o t) none)) (sym e))
+                ap (λ (b : Bool). better R o (best_below W R N g held o mask t) (cond b (first_free W R N g held o t) None)) (sym e))
                 (so_far.best h);
           }

@@ -4,11 +4,13 @@ use mathlib.Core.Path.{◌≡◌, refl, sym, ap, subst, ◌∙◌}
 use mathlib.Core.Logic.{⊎_elim}
 use mathlib.Core.Bool.{Bool, true, false, cond}
 use mathlib.Core.List.{List}
-use mathlib.Core.Option.{none, some, some-injective, none-ne-some}
 use Prim.Native.Nat.{ℕ, ◌+◌, ◌-◌, ◌*◌, ◌/◌, ◌≤◌, ◌<◌}
 use native.Mathlib.Omega.{arith}
 use lib.ListN.{length, take, drop}
 use lib.Seq.{sets, sets-eq, take_at}
+use Rattle.std.specs.Prelude.{Option, Some, None}
+use Rattle.std.proofs.lemmas.Option.{same_Some, none-some}
+use Rattle.ranks.specs.declared.Ranked.{Ranked}
 use Rattle.defs.specs.declared.Position.{Position}
 use Rattle.defs.specs.Meaning.Outline.{KeepsOrder}
 use Rattle.defs.specs.Meaning.Turn.{turned, extent_x, extent_y}
@@ -29,14 +31,10 @@ use Rattle.tables.specs.Piece.{Stands}
 use Rattle.laws.proofs.First.{first_at}
 use Rattle.tables.proofs.Flats.{table_flat}
 use Rattle.tables.proofs.Copies.{NoneBefore, not_free}
-use Rattle.walk.specs.declared.Spot.{Spot}
-use Rattle.walk.specs.declared.Spot.TheVariants.{Found, None}
 use Rattle.walk.specs.declared.TurnWalk.{TurnWalk}
 use Rattle.walk.specs.Free.{Frame, NoHeight}
 use Rattle.walk.proofs.Searches.{frame_of, free_is, found_is}
 use Rattle.walk.proofs.Walks.{tries_are}
-use Rattle.ranks.specs.declared.Choice.{Choice}
-use Rattle.ranks.specs.declared.Choice.TheVariants.{Nowhere}
 use Rattle.search.specs.declared.Way.{Way}
 use Rattle.search.specs.declared.Way.TheVariants.{Walk as ByWalk, Round}
 use Rattle.search.specs.Searched.{FullBefore, SearchedTo, StepsBy, Looks}
@@ -49,7 +47,7 @@ stored_front l ws h = ap (take (length ws)) (sets-eq ws l 0 (omega arith)) ∙ t
 module _ {o : List ℕ} {t R g : ℕ} {work work' : List ℕ} {k : ℕ} (put : PutRuns o t R g work work' k) where
   -- more runs than the work buffer has room for
   pub too_many : (W N : ℕ) (held : List (List Rows)) (limit : ℕ) (way : Way) → length work' / 3 < k →
-      OneTurn W R N g held o t (length work) limit way (record { most = k; best = Nowhere; tries = 0; stands = record { turn = t; runs = k } })
+      OneTurn W R N g held o t (length work) limit way (record { most = k; best = None; tries = 0; stands = record { turn = t; runs = k } })
   too_many W N held limit way m =
       record {
         most = put.count;
@@ -73,9 +71,9 @@ module _ {o : List ℕ} {t R g : ℕ} {work work' : List ℕ} {k : ℕ} (put : P
   put_kept = record { stand = λ _ fits. stands (omega (arith, put.count)) }
 
 -- what is found where a test passes
-found_where : (b : Bool) {x q : Position} → cond b (some x) none ≡ some q → (b ≡ true) × (x ≡ q)
-found_where true e = (refl, some-injective _ _ e)
-found_where false {q = q} e = absurd (none-ne-some q e)
+found_where : (b : Bool) {x q : Position} → cond b (Some x) None ≡ Some q → (b ≡ true) × (x ≡ q)
+found_where true e = (refl, same_Some _ _ e)
+found_where false {q = q} e = absurd (none-some q e)
 
 -- The search with the runs of turn t, whose columns and height were worked out.
 module _
@@ -113,7 +111,7 @@ module _
       })
 
   pub spot_fits : {end c y : ℕ} {way : Way} {a : TurnWalk} → W ≤ 16000 → N ≤ 4096 → Looks f l h r N W p wide tall end way a →
-      a.spot ≡ Found c y → (c ≤ 65535) × (y + tall ≤ 65535)
+      a.spot ≡ Some (c, y) → (c ≤ 65535) × (y + tall ≤ 65535)
   spot_fits {end} few many e q =
       let s = subst (SearchedTo f l h r N W p wide tall end) q e.spot in
       (omega (arith, s.fits), omega (arith, s.height.fits))
@@ -121,7 +119,7 @@ module _
   -- a position that the definition finds is free, so it is in none of the columns that have no free height
   after_limit : (limit : ℕ) →
       ((c : ℕ) → c < columns_for (limit + 1 - extent_x o t) R → c + columns_for (extent_x o t) R ≤ N → NoHeight f l h r N W p (extent_y o t) c) →
-      (q : Position) → first_free W R N g (table_of f l h N) o t ≡ some q → (limit < right_edge R o q) × (right_edge R o q ≤ N * R)
+      (q : Position) → first_free W R N g (table_of f l h N) o t ≡ Some q → (limit < right_edge R o q) × (right_edge R o q ≤ N * R)
   unfolding first_free right_edge
   after_limit limit full q e =
       let column = first_at _ 0 _ q e in
@@ -140,11 +138,11 @@ module _
         edge_within R (extent_x o t) Rpos c N on_strip,
       )
 
-  finds : (limit : ℕ) (s : Spot) →
+  finds : (limit : ℕ) (s : Option (ℕ × ℕ)) →
       SearchedTo f l h r N W p (columns_for (extent_x o t) R) (extent_y o t) (columns_for (limit + 1 - extent_x o t) R) s →
       FindsTo R N o (first_free W R N g (table_of f l h N) o t) limit (ranked s t (extent_x o t) (extent_y o t) R)
   unfolding right_edge top
-  finds limit (Found c y) e =
+  finds limit (Some (c, y)) e =
       record { is = sym (found_is o t R g small laid stood e); ranks = record { right = refl; top = refl } }
   finds limit None e = after_limit limit e
 
@@ -154,7 +152,7 @@ module _
   tries ByWalk n e = tries_are o t R g small laid stood e
   tries Round n e = tt
 
-  pub turn_tried : (words limit : ℕ) (way : Way) (a : TurnWalk) {c : Choice} →
+  pub turn_tried : (words limit : ℕ) (way : Way) (a : TurnWalk) {c : Option Ranked} →
       Looks f l h r N W p wide tall (columns_for (limit + 1 - w) R) way a → c ≡ ranked a.spot t w tall R →
       OneTurn W R N g (table_of f l h N) o t words limit way
       (record { most = p; best = c; tries = a.tries; stands = record { turn = t; runs = p } })

@@ -1,6 +1,5 @@
 -- What is chosen among turns. Assumes nothing.
-use Rattle.std.specs.Prelude.{◌≡◌, true, List, ℕ, ◌+◌, ◌*◌, ◌≤◌, ◌<◌, length}
-use Rattle.std.proofs.Math.Option.{Option, none, some}
+use Rattle.std.specs.Prelude.{◌≡◌, true, List, ℕ, ◌+◌, ◌*◌, ◌≤◌, ◌<◌, length, Option, Some, None}
 use Rattle.defs.specs.declared.Position.{Position}
 use Rattle.defs.specs.Meaning.Turn.{extent_x, extent_y}
 use Rattle.defs.specs.Meaning.Placing.{columns_for, right_edge, top}
@@ -11,46 +10,42 @@ use Rattle.outline.specs.declared.Bounds.{Bounds}
 use Rattle.outline.specs.Vertex.{Lent, BoundsOf}
 use Rattle.tables.specs.Flat.{Laid}
 use Rattle.tables.specs.Piece.{Stands}
-use Rattle.walk.specs.declared.Spot.{Spot}
-use Rattle.walk.specs.declared.Spot.TheVariants.{Found, None}
 use Rattle.search.specs.declared.Way.{Way}
 use Rattle.search.specs.declared.Way.TheVariants.{Walk as ByWalk, Round}
 use Rattle.ranks.specs.declared.Ranked.{Ranked}
-use Rattle.ranks.specs.declared.Choice.{Choice}
-use Rattle.ranks.specs.declared.Choice.TheVariants.{Chosen, Nowhere}
 use Rattle.ranks.specs.declared.Tried.{Tried}
 
 -- the position of a choice
-abbrev pub place_of : Choice → Option Position
-place_of (Chosen b) = some b.at
-place_of Nowhere = none
+abbrev pub place_of : Option Ranked → Option Position
+place_of (Some b) = Some b.at
+place_of None = None
 
 -- the rank of a choice is that of its position
 pub record RankOf (R : ℕ) (o : List ℕ) (b : Ranked) : Type 0 where
   pub right : b.right ≡ right_edge R o b.at
   pub top : b.top ≡ top o b.at
 
-abbrev pub Ranks : ℕ → List ℕ → Choice → Type 0
-Ranks R o (Chosen b) = RankOf R o b
-Ranks R o Nowhere = Unit {0}
+abbrev pub Ranks : ℕ → List ℕ → Option Ranked → Type 0
+Ranks R o (Some b) = RankOf R o b
+Ranks R o None = Unit {0}
 
 -- a spot of turn t, with its rank by the extent w, h
 abbrev pub ranked_at : ℕ → ℕ → ℕ → ℕ → ℕ → ℕ → Ranked
 ranked_at c y t w h R = record { at = record { turn = t; column = c; height = y }; right = c * R + w; top = y + h }
 
-abbrev pub ranked : Spot → ℕ → ℕ → ℕ → ℕ → Choice
-ranked (Found c y) t w h R = Chosen (ranked_at c y t w h R)
-ranked None t w h R = Nowhere
+abbrev pub ranked : Option (ℕ × ℕ) → ℕ → ℕ → ℕ → ℕ → Option Ranked
+ranked (Some (c, y)) t w h R = Some (ranked_at c y t w h R)
+ranked None t w h R = None
 
 -- a choice is what the definition finds
-pub record Finds (R : ℕ) (o : List ℕ) (x : Option Position) (c : Choice) : Type 0 where
+pub record Finds (R : ℕ) (o : List ℕ) (x : Option Position) (c : Option Ranked) : Type 0 where
   pub is : place_of c ≡ x
   pub ranks : Ranks R o c
 
 -- a choice is what the definition finds; if it is none, what the definition finds has its right edge past `limit`, and on the strip
-abbrev pub FindsTo : ℕ → ℕ → List ℕ → Option Position → ℕ → Choice → Type 0
-FindsTo R N o x limit (Chosen b) = Finds R o x (Chosen b)
-FindsTo R N o x limit Nowhere = (q : Position) → x ≡ some q → (limit < right_edge R o q) × (right_edge R o q ≤ N * R)
+abbrev pub FindsTo : ℕ → ℕ → List ℕ → Option Position → ℕ → Option Ranked → Type 0
+FindsTo R N o x limit (Some b) = Finds R o x (Some b)
+FindsTo R N o x limit None = (q : Position) → x ≡ Some q → (limit < right_edge R o q) × (right_edge R o q ≤ N * R)
 
 -- an outline that passes 7 and 8, its bounds, and a table laid flat
 pub record Ready (f l h o : List ℕ) (W R N g : ℕ) (b : Bounds) : Type 0 where

@@ -11,9 +11,9 @@ ghost use Rattle.best.specs.Choice.{ranked_at, Ready, NoneInTurn, OneTurn, Turns
 
 use defs::{Figures, Position};
 use outline::{Bounds, Extent};
-use ranks::{Choice, Ranked, Standing, Tried};
+use ranks::{Ranked, Standing, Tried};
 use search::{Edges, Way};
-use walk::{Search, Spot};
+use walk::Search;
 
 // Column c and height y of turn t, with their rank in columns of r units.
 fn rank(c: usize, y: u16, t: u16, e: Extent, r: u16) -> Ranked
@@ -60,7 +60,7 @@ fn try_turn(
     if work.len() / 3 < k {
         return Tried {
             most: k,
-            best: Choice::Nowhere,
+            best: None,
             tries: 0,
             stands: Standing { turn: t, runs: k },
         };
@@ -81,17 +81,17 @@ fn try_turn(
     };
     let found = search::search(first, lows, highs, work, figures, way, edges);
     let spot = found.spot;
-    let Spot::Found(c, y) = spot else {
+    let Some((c, y)) = spot else {
         return Tried {
             most: k,
-            best: Choice::Nowhere,
+            best: None,
             tries: found.tries,
             stands: Standing { turn: t, runs: k },
         };
     };
     Tried {
         most: k,
-        best: Choice::Chosen(rank(c, y, t, e, g.resolution)),
+        best: Some(rank(c, y, t, e, g.resolution)),
         tries: found.tries,
         stands: Standing { turn: t, runs: k },
     }
@@ -153,7 +153,7 @@ pub fn best_turn(
 {
     let mut s = Tried {
         most: 0,
-        best: Choice::Nowhere,
+        best: None,
         tries: 0,
         stands: Standing { turn: 4, runs: 0 },
     };

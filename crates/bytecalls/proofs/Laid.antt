@@ -6,10 +6,9 @@ use Prim.Native.Nat.{ℕ, ◌*◌, ◌/◌, ◌≤◌, ◌<◌, min}
 use native.Mathlib.Omega.{arith}
 use lib.ListN.{length, get_or, take, drop, length-append, length-drop, take-append-drop}
 use lib.Seq.{drop-append-le, length-take-le}
+use Rattle.std.specs.Prelude.{Result, Ok, Err}
 use Rattle.defs.specs.declared.Refusal.{Refusal}
 use Rattle.defs.specs.declared.Totals.{Totals}
-use Rattle.defs.specs.declared.Laying.{Laying}
-use Rattle.defs.specs.declared.Laying.TheVariants.{Laid, Refused}
 use Rattle.defs.specs.Computing.Calls.{cleared}
 use Rattle.defs.specs.Computing.Lay.{entries_words, lay_entries, lay_answer, lay_output, LayLeaves, LayStep}
 use Rattle.defs.specs.Computing.Bytes.{words_in, most_work, work_in, word_bytes, bytes_left, LayBytesStep}
@@ -48,7 +47,7 @@ module _ {bs os s e : List ℕ} (l : Lent bs os s e) where
   answer_as b g work = lay_same b g work (words_capped bs l.long) (words_capped os (out_long ∙ l.counted))
 
   module _ {b s' e' w w' : List ℕ} {g : ℕ} where
-    module _ {t : Totals} (x : LayStep b g s e w (Laid t) s' e' w') where
+    module _ {t : Totals} (x : LayStep b g s e w (Ok t) s' e' w') where
       same : length s ≡ length (words_in bs)
       unfolding LayLeaves
       same = uncapped (words_capped bs l.long) (left_short x.strip)
@@ -68,15 +67,15 @@ module _ {bs os s e : List ℕ} (l : Lent bs os s e) where
       output_long =
           ap length x.output ∙ length-append ws (drop (length ws) e) ∙ omega (arith, length-drop (length ws) e, out_long, room)
 
-      all_output : e' ++ drop (length e') (words_in os) ≡ lay_output b g (words_in os) (length (words_in bs)) (length w) (Laid t)
+      all_output : e' ++ drop (length e') (words_in os) ≡ lay_output b g (words_in os) (length (words_in bs)) (length w) (Ok t)
       unfolding lay_output
       all_output =
           rw (output_long, output_is, part_of_output ws (words_in os) l.count within room)
-          (ap (λ (n : ℕ). lay_output b g (words_in os) n (length w) (Laid t)) same)
+          (ap (λ (n : ℕ). lay_output b g (words_in os) n (length w) (Ok t)) same)
 
       pub laid_bytes : {bs' os' : List ℕ} → bs' ≡ word_bytes s' ++ drop (2 * length s') bs →
           os' ≡ word_bytes e' ++ drop (2 * length e') os → ((i : ℕ) → i < length os → get_or os i 0 < 256) →
-          LaidBytes b g bs os (length w) (Laid t) bs' os'
+          LaidBytes b g bs os (length w) (Ok t) bs' os'
       unfolding LayLeaves
       laid_bytes put put-out bytes =
           record {
@@ -88,8 +87,8 @@ module _ {bs os s e : List ℕ} (l : Lent bs os s e) where
                 put-out ∙ put_first os e' bytes (omega (arith, output_long, within, words_length os)) ∙ ap (bytes_left os) all_output;
           }
 
-    pub unlaid_bytes : {r : Refusal} → LayStep b g s e w (Refused r) s' e' w' → ((i : ℕ) → i < length bs → get_or bs i 0 < 256) →
-        ((i : ℕ) → i < length os → get_or os i 0 < 256) → LaidBytes b g bs os (length w) (Refused r) bs os
+    pub unlaid_bytes : {r : Refusal} → LayStep b g s e w (Err r) s' e' w' → ((i : ℕ) → i < length bs → get_or bs i 0 < 256) →
+        ((i : ℕ) → i < length os → get_or os i 0 < 256) → LaidBytes b g bs os (length w) (Err r) bs os
     unfolding LayLeaves lay_output
     unlaid_bytes x bytes out-bytes =
         record {
@@ -101,12 +100,12 @@ module _ {bs os s e : List ℕ} (l : Lent bs os s e) where
         }
 
 -- as many words of a work buffer as are used
-pub lay_some : {b bs os : List ℕ} {g n m : ℕ} {a : Laying} {bs' os' : List ℕ} → n ≡ m → LaidBytes b g bs os n a bs' os' →
+pub lay_some : {b bs os : List ℕ} {g n m : ℕ} {a : Result Totals Refusal} {bs' os' : List ℕ} → n ≡ m → LaidBytes b g bs os n a bs' os' →
     LaidBytes b g bs os m a bs' os'
 lay_some e x = rw e at x
 
 -- the work buffer's words are cleared
-pub lay_step : {b bs os work : List ℕ} {g : ℕ} {a : Laying} {bs' os' work' : List ℕ} → LaidBytes b g bs os (min (length work / 2) most_work) a bs' os' →
+pub lay_step : {b bs os work : List ℕ} {g : ℕ} {a : Result Totals Refusal} {bs' os' work' : List ℕ} → LaidBytes b g bs os (min (length work / 2) most_work) a bs' os' →
     work' ≡ bytes_left work (cleared (words_in work)) → LayBytesStep b g bs os work a bs' os' work'
 lay_step {b} {bs} {os} {work} {g} {a} {bs'} {os'} x e =
     let y : LaidBytes b g bs os (length (work_in work)) a bs' os' = rw (work_long work) x in
@@ -120,7 +119,7 @@ lay_step {b} {bs} {os} {work} {g} {a} {bs'} {os'} x e =
     }
 
 -- half of a work buffer stands for all of it
-pub lay_half : {b bs os : List ℕ} {g : ℕ} (work : List ℕ) {front : List ℕ} {a : Laying} {bs' os' work' : List ℕ} →
+pub lay_half : {b bs os : List ℕ} {g : ℕ} (work : List ℕ) {front : List ℕ} {a : Result Totals Refusal} {bs' os' work' : List ℕ} →
     3072000 ≤ length work / 2 → LayBytesStep b g bs os (take (length work / 2) work) a bs' os' front →
     work' ≡ bytes_left (front ++ drop (length work / 2) work) (cleared (words_in (front ++ drop (length work / 2) work))) →
     LayBytesStep b g bs os work a bs' os' work'

@@ -5,8 +5,8 @@ use Prim.Native.Nat.{ℕ, ◌*◌, ◌/◌, ◌<◌, min}
 use lib.Dec.{eqb}
 use lib.ListN.{length, get_or, drop}
 use borrow.Author.Tests.{eqb-true}
+use Rattle.std.specs.Prelude.{Ok, Err}
 use Rattle.defs.specs.declared.Refusal.{Refusal}
-use Rattle.defs.specs.declared.Opening.TheVariants.{Opened, Refused}
 use Rattle.defs.specs.Computing.Words.{figures_no}
 use Rattle.defs.specs.Computing.Calls.{open_answer, OpenLeaves, OpenStep}
 use Rattle.defs.specs.Computing.Bytes.{words_in, word_bytes, OpenBytesStep}
@@ -23,8 +23,8 @@ open_same W R N g c =
     ask_same (eqb first 0) _ _ _ (λ e. rw (length_same N ((figures_none W R N g).0 (eqb-true first 0 e)).0.columns.at_most c))
 
 module _ {W R N g : ℕ} {bs s s' : List ℕ} (long : length s ≡ min (length bs / 2) 68102) where
-  pub opened_bytes : {bs' : List ℕ} → OpenStep W R N g s Opened s' → bs' ≡ word_bytes s' ++ drop (2 * length s') bs →
-      OpenBytesStep W R N g bs Opened bs'
+  pub opened_bytes : {bs' : List ℕ} → OpenStep W R N g s (Ok tt) s' → bs' ≡ word_bytes s' ++ drop (2 * length s') bs →
+      OpenBytesStep W R N g bs (Ok tt) bs'
   unfolding OpenLeaves
   opened_bytes x put =
       let same : length s ≡ length (words_in bs) = uncapped (words_capped bs long) (left_short x.strip) in
@@ -34,8 +34,8 @@ module _ {W R N g : ℕ} {bs s s' : List ℕ} (long : length s ≡ min (length b
         strip_left = put ∙ put_all bs s' (x.strip.long ∙ same ∙ words_length bs);
       }
 
-  pub unopened_bytes : {r : Refusal} → OpenStep W R N g s (Refused r) s' → ((i : ℕ) → i < length bs → get_or bs i 0 < 256) →
-      OpenBytesStep W R N g bs (Refused r) bs
+  pub unopened_bytes : {r : Refusal} → OpenStep W R N g s (Err r) s' → ((i : ℕ) → i < length bs → get_or bs i 0 < 256) →
+      OpenBytesStep W R N g bs (Err r) bs
   unfolding OpenLeaves
   unopened_bytes x bytes =
       record {

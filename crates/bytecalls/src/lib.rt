@@ -5,7 +5,8 @@ ghost use Rattle.std.specs.Prelude.{◌≡◌, ◌/◌, ◌≤◌, min, length};
 ghost use Rattle.defs.specs.Computing.Bytes.{most_work, OpenBytesStep, LayBytesStep};
 ghost use Rattle.bytecalls.specs.Steps.{LaidBytes};
 
-use defs::{Laying, Opening};
+use defs::{Refusal, Totals};
+
 
 // Words of the entries of 200 pieces.
 const OUTPUT_ROOM: usize = 800;
@@ -18,21 +19,21 @@ fn open_words(
     gap: u16,
     words: &mut [u16],
     strip: &mut [u8],
-) -> Opening
+) -> Result<(), Refusal>
     requires { length words.old ≡ min (length strip.old / 2) 68102 }
     ensures { OpenBytesStep width resolution columns gap strip.old result strip.new }
 {
     match open::open(width, resolution, columns, gap, words) {
-        Opening::Opened => {
+        Ok(()) => {
             bytewords::put_words(words, strip);
-            Opening::Opened
+            Ok(())
         }
-        Opening::Refused(r) => Opening::Refused(r),
+        Err(r) => Err(r),
     }
 }
 
 // The open call.
-pub fn open_bytes(width: u16, resolution: u16, columns: u16, gap: u16, strip: &mut [u8]) -> Opening
+pub fn open_bytes(width: u16, resolution: u16, columns: u16, gap: u16, strip: &mut [u8]) -> Result<(), Refusal>
     ensures { OpenBytesStep width resolution columns gap strip.old result strip.new }
 {
     let mut words = [0u16; byteput::STRIP_ROOM];
@@ -49,24 +50,24 @@ fn lay_words(
     words: &mut [u16],
     entries: &mut [u16],
     work: &mut [u16],
-) -> Laying
+) -> Result<Totals, Refusal>
     requires fact_1 { length words.old ≡ min (length strip.old / 2) 68102 }
     requires fact_2 { length entries.old ≡ min (length output.old / 2) 800 }
     ensures { LaidBytes sheet.now gap strip.old output.old (length work.old) result strip.new output.new }
 {
     bytewords::take_words(output, entries);
     match laying::lay(sheet, gap, words, entries, work) {
-        Laying::Laid(t) => {
+        Ok(t) => {
             bytewords::put_words(words, strip);
             bytewords::put_words(entries, output);
-            Laying::Laid(t)
+            Ok(t)
         }
-        Laying::Refused(r) => Laying::Refused(r),
+        Err(r) => Err(r),
     }
 }
 
 // Lends words for strip and output.
-fn lay_with(sheet: &[u8], gap: u16, strip: &mut [u8], output: &mut [u8], work: &mut [u16]) -> Laying
+fn lay_with(sheet: &[u8], gap: u16, strip: &mut [u8], output: &mut [u8], work: &mut [u16]) -> Result<Totals, Refusal>
     ensures { LaidBytes sheet.now gap strip.old output.old (length work.old) result strip.new output.new }
 {
     let mut words = [0u16; byteput::STRIP_ROOM];
@@ -85,7 +86,7 @@ fn lay_with(sheet: &[u8], gap: u16, strip: &mut [u8], output: &mut [u8], work: &
 }
 
 // Lends a small work buffer.
-fn lay_small(sheet: &[u8], gap: u16, strip: &mut [u8], output: &mut [u8], room: usize) -> Laying
+fn lay_small(sheet: &[u8], gap: u16, strip: &mut [u8], output: &mut [u8], room: usize) -> Result<Totals, Refusal>
     requires { room ≤ 9000 }
     ensures { LaidBytes sheet.now gap strip.old output.old (min room most_work) result strip.new output.new }
 {
@@ -94,7 +95,7 @@ fn lay_small(sheet: &[u8], gap: u16, strip: &mut [u8], output: &mut [u8], room: 
 }
 
 // Lends as much of a work buffer as is used of one.
-fn lay_large(sheet: &[u8], gap: u16, strip: &mut [u8], output: &mut [u8], room: usize) -> Laying
+fn lay_large(sheet: &[u8], gap: u16, strip: &mut [u8], output: &mut [u8], room: usize) -> Result<Totals, Refusal>
     ensures { LaidBytes sheet.now gap strip.old output.old (min room most_work) result strip.new output.new }
 {
     let mut work = [0u16; byteput::MOST_WORK];
@@ -109,7 +110,7 @@ pub fn lay_bytes(
     strip: &mut [u8],
     output: &mut [u8],
     work: &mut [u8],
-) -> Laying
+) -> Result<Totals, Refusal>
     ensures { LayBytesStep sheet.now gap strip.old output.old work.old result strip.new output.new work.new }
 {
     let n = work.len() / 2;

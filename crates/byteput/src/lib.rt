@@ -6,7 +6,7 @@ ghost use Rattle.std.specs.Prelude.{◌≡◌, ◌/◌, ◌≤◌, min, length};
 ghost use Rattle.defs.specs.Computing.Bytes.{most_work, PlaceBytesStep, AskBytesStep, CommitBytesStep};
 ghost use Rattle.byteput.specs.Steps.{PutWords, PutCopy, PutBack};
 
-use defs::{AskingTries, Committing, Placing, PlacingTries, Position};
+use defs::{PlacingTries, Position, Refusal};
 use wanted::Wanted;
 
 // One word more than the longest strip has, so that a longer one is as wrong in its length as it was.
@@ -133,11 +133,11 @@ fn put_back(
     let x = put_copy(strip, outline, wanted, words, work);
     let a = x.placing;
     match a {
-        Placing::Placed(p) => {
+        Ok(p) => {
             bytewords::put_words(words, strip);
             x
         }
-        Placing::Refused(r) => x,
+        Err(r) => x,
     }
 }
 
@@ -151,21 +151,16 @@ pub fn place_bytes(strip: &mut [u8], outline: &[u8], mask: u16, work: &mut [u8])
 }
 
 // The ask call: place on a copy of the strip that is not put back.
-pub fn ask_bytes(strip: &[u8], outline: &[u8], mask: u16, work: &mut [u8]) -> AskingTries
-    ensures { AskBytesStep strip.now outline.now mask work.old result.asking result.tries strip.exit.now work.new }
+pub fn ask_bytes(strip: &[u8], outline: &[u8], mask: u16, work: &mut [u8]) -> PlacingTries
+    ensures { AskBytesStep strip.now outline.now mask work.old result.placing result.tries strip.exit.now work.new }
 {
     let mut words = [0u16; STRIP_ROOM];
     let n = lesser(strip.len() / 2, STRIP_ROOM);
-    let x = put_copy(strip, outline, Wanted::Best(mask), &mut words[..n], work);
-    let a = x.placing;
-    AskingTries {
-        asking: ask::show(a),
-        tries: x.tries,
-    }
+    put_copy(strip, outline, Wanted::Best(mask), &mut words[..n], work)
 }
 
 // The commit call.
-pub fn commit_bytes(strip: &mut [u8], outline: &[u8], p: Position, work: &mut [u8]) -> Committing
+pub fn commit_bytes(strip: &mut [u8], outline: &[u8], p: Position, work: &mut [u8]) -> Result<(), Refusal>
     ensures { CommitBytesStep strip.old outline.now p work.old result strip.new work.new }
 {
     let mut words = [0u16; STRIP_ROOM];

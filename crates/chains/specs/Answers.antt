@@ -1,11 +1,7 @@
 -- What each function of the crate answers, case by case. Assumes nothing.
-use Rattle.std.specs.Prelude.{◌≡◌, List, ℕ, ◌≤◌, ◌<◌}
+use Rattle.std.specs.Prelude.{◌≡◌, List, ℕ, ◌≤◌, ◌<◌, Option, Some, None}
 use Rattle.defs.specs.Meaning.Strip.{width_of, column_of, low_of, high_of}
 use Rattle.chains.specs.Form.{ChainOf}
-use Rattle.chains.specs.declared.Chain.{Chain}
-use Rattle.chains.specs.declared.Chain.TheVariants.{Whole, Broken}
-use Rattle.chains.specs.declared.Mark.{Mark}
-use Rattle.chains.specs.declared.Mark.TheVariants.{High, Wrong}
 
 -- r is a record, and a run of column c that begins at row m or later.
 pub record RunFrom (s : List ℕ) (Q c m r : ℕ) : Type 0 where
@@ -22,13 +18,13 @@ pub record RunTo (s : List ℕ) (Q c m r h : ℕ) : Type 0 where
 pub record NoRun (s : List ℕ) (Q c m r : ℕ) : Type 0 where
   pub none : RunFrom s Q c m r → ⊥
 
-abbrev pub Marks : List ℕ → ℕ → ℕ → ℕ → ℕ → Mark → Type 0
-Marks s Q c m r (High h) = RunTo s Q c m r h
-Marks s Q c m r Wrong = NoRun s Q c m r
+abbrev pub Marks : List ℕ → ℕ → ℕ → ℕ → ℕ → Option ℕ → Type 0
+Marks s Q c m r (Some h) = RunTo s Q c m r h
+Marks s Q c m r None = NoRun s Q c m r
 
 pub record NoChain (s : List ℕ) (Q c : ℕ) : Type 0 where
   pub none : (k : ℕ) → ChainOf s Q c k → ⊥
 
-abbrev pub Chains : List ℕ → ℕ → ℕ → Chain → Type 0
-Chains s Q c (Whole k) = ChainOf s Q c k
-Chains s Q c Broken = NoChain s Q c
+abbrev pub Chains : List ℕ → ℕ → ℕ → Option ℕ → Type 0
+Chains s Q c (Some k) = ChainOf s Q c k
+Chains s Q c None = NoChain s Q c

@@ -7,47 +7,33 @@ ghost use Rattle.chains.specs.Answers.{Marks, Chains};
 
 use striprecords::Shape;
 
-// A chain that ends, of so many records.
-#[derive(Clone, Copy)]
-pub enum Chain {
-    Whole(usize),
-    Broken,
-}
-
-// The high of a run.
-#[derive(Clone, Copy)]
-pub enum Mark {
-    High(usize),
-    Wrong,
-}
-
 // Is r a record, and a run of column c that begins at row m or later?
-pub fn check_run(s: &[u16], g: Shape, c: usize, m: usize, r: usize) -> Mark
+pub fn check_run(s: &[u16], g: Shape, c: usize, m: usize, r: usize) -> Option<usize>
     requires { Sized s.now g }
     ensures { Marks s.now g.records c m r result }
 {
     if g.records < r {
-        return Mark::Wrong;
+        return None;
     }
     if striprecords::word_of(s, g, r, limits::COLUMN) != c {
-        return Mark::Wrong;
+        return None;
     }
     let lo = striprecords::word_of(s, g, r, limits::LOW);
     let hi = striprecords::word_of(s, g, r, limits::HIGH);
     if lo < m {
-        return Mark::Wrong;
+        return None;
     }
     if hi <= lo {
-        return Mark::Wrong;
+        return None;
     }
     if g.width < hi {
-        return Mark::Wrong;
+        return None;
     }
-    Mark::High(hi)
+    Some(hi)
 }
 
 // The chain of column c. Its lows rise, so it ends.
-pub fn column_chain(s: &[u16], g: Shape, c: usize) -> Chain
+pub fn column_chain(s: &[u16], g: Shape, c: usize) -> Option<usize>
     requires fact_1 { Sized s.now g }
     requires fact_2 { c < g.columns }
     ensures { Chains s.now g.records c result }
@@ -57,21 +43,21 @@ pub fn column_chain(s: &[u16], g: Shape, c: usize) -> Chain
     let mut k: usize = 0;
     while 0 < at {
         match check_run(s, g, c, m, at) {
-            Mark::High(h) => {
+            Some(h) => {
                 m = h + 1;
                 k += 1;
                 at = striprecords::word_of(s, g, at, limits::NEXT);
             }
-            Mark::Wrong => {
-                return Chain::Broken;
+            None => {
+                return None;
             }
         }
     }
-    Chain::Whole(k)
+    Some(k)
 }
 
 // The free chain. One of more than Q records comes to some record again, and so does not end.
-pub fn free_chain(s: &[u16], g: Shape) -> Chain
+pub fn free_chain(s: &[u16], g: Shape) -> Option<usize>
     requires { Sized s.now g }
     ensures { Chains s.now g.records g.columns result }
 {
@@ -80,16 +66,16 @@ pub fn free_chain(s: &[u16], g: Shape) -> Chain
     let mut k = at - first;
     while 0 < at {
         if g.records < at {
-            return Chain::Broken;
+            return None;
         }
         if g.records <= k {
-            return Chain::Broken;
+            return None;
         }
         if !striprecords::is_free(s, g, at) {
-            return Chain::Broken;
+            return None;
         }
         k += 1;
         at = striprecords::word_of(s, g, at, limits::NEXT);
     }
-    Chain::Whole(k)
+    Some(k)
 }

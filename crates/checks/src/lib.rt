@@ -39,25 +39,18 @@ fn eight(o: &[u16], b: Bounds) -> bool
     false
 }
 
-// The first of the questions asked that gets "no", by its number, or the bounds of an outline that passes them: they are worked out once.
-#[derive(Clone, Copy)]
-pub enum Checked {
-    No(u16),
-    Passes(Bounds),
-}
-
 // Questions 7 and 8.
-pub fn bounds(o: &[u16]) -> Checked
+pub fn bounds(o: &[u16]) -> Result<Bounds, u16>
     ensures { Says o.now (bounds_no o.now) result }
 {
     if !seven(o) {
-        return Checked::No(7);
+        return Err(7);
     }
     let b = outline::bounds_of(o);
     if !eight(o, b) {
-        return Checked::No(8);
+        return Err(8);
     }
-    Checked::Passes(b)
+    Ok(b)
 }
 
 // Question 9: the mask is 1 to 15.

@@ -8,10 +8,9 @@ use Prim.Native.Nat.{ℕ, ◌^◌, ◌≤◌}
 use native.Mathlib.Omega.{arith}
 use lib.Dec.{leb}
 use borrow.Author.Tests.{leb-true}
+use Rattle.std.specs.Prelude.{Result, Ok, Err}
 use Rattle.defs.specs.declared.Position.{Position}
 use Rattle.defs.specs.declared.Refusal.{Refusal}
-use Rattle.defs.specs.declared.Committing.{Committing}
-use Rattle.defs.specs.declared.Committing.TheVariants.{Committed, Refused}
 use Rattle.defs.specs.Answer.{number_of_commit}
 use Rattle.defs.specs.Meaning.Limits.{most_turn}
 use Rattle.defs.specs.Meaning.Outline.{KeepsOrder}
@@ -23,6 +22,7 @@ use Rattle.defs.specs.Computing.Words.{records_of, columns_runs}
 use Rattle.defs.specs.Computing.Calls.{q9b, q14b, q18b, outline_no, commit_answer}
 use Rattle.laws.proofs.Tests.{Decides}
 use Rattle.laws.proofs.Questions.{question_9}
+use Rattle.laws.proofs.Granted.{no_grant}
 use Rattle.geom.proofs.Checks.{Passes, checks}
 use Rattle.turns.proofs.Alone.{allows_own, mask_of_turn}
 use Rattle.tables.proofs.Tables.{In}
@@ -34,14 +34,6 @@ use Rattle.claims.proofs.Invariant.{Kept}
 use Rattle.claims.proofs.CommitFates.{CommitFate, turn_no_lem, room, early, short, taken, full, entered}
 use Rattle.claims.proofs.Passing.{asked, some_side}
 use Rattle.claims.proofs.KeptStrip.{table, resolution_least, strip_formed, commit_fate_on}
-
-is_committed : Committing → Bool
-is_committed Committed = true
-is_committed (Refused r) = false
-
-pub refused_nothing : {r : Refusal} → Refused r ≡ Committed → ⊥
-unfolding is_committed
-refused_nothing e = false≢true (ap is_committed e)
 
 -- questions 7 to 12 of the turn are those of its mask
 module _ (o : List ℕ) (t R g n : ℕ) where
@@ -61,7 +53,7 @@ module _ (W R N g Q : ℕ) (held : List (List Rows)) (o : List ℕ) (p : Positio
   abbrev Alone : Type 0
   Alone = Passes o (2 ^ p.turn) R g n
 
-  abbrev Fate : Committing → Type 0
+  abbrev Fate : Result Unit Refusal → Type 0
   Fate a = CommitFate W R N g Q held o p n a
 
   passing : turn_no_lem W R N g Q held o p n ≡ 0 → room W R N g Q held o p n ≡ true → Alone
@@ -76,42 +68,42 @@ module _ (W R N g Q : ℕ) (held : List (List Rows)) (o : List ℕ) (p : Positio
     pub free : q18b W R N g held o p ≡ true
     pub room : q14b W R g Q held o p ≡ true
 
-  enters : (a : Committing) → Fate a → a ≡ Committed → Enters
-  enters a (early m e) q = absurd (refused_nothing q)
-  enters a (short e7 e12) q = absurd (refused_nothing q)
-  enters a (taken e7 e12 e18) q = absurd (refused_nothing q)
-  enters a (full e7 e12 e18 e14) q = absurd (refused_nothing q)
+  enters : (a : Result Unit Refusal) → Fate a → a ≡ Ok tt → Enters
+  enters a (early m e) q = absurd (no_grant q)
+  enters a (short e7 e12) q = absurd (no_grant q)
+  enters a (taken e7 e12 e18) q = absurd (no_grant q)
+  enters a (full e7 e12 e18 e14) q = absurd (no_grant q)
   enters a (entered e7 e12 e18 e14) q = record { passes = passing e7 e12; free = e18; room = e14 }
 
-  taken_if_18 : (a : Committing) → Fate a → number_of_commit a ≡ 18 → Alone × (q18b W R N g held o p ≡ false)
+  taken_if_18 : (a : Result Unit Refusal) → Fate a → number_of_commit a ≡ 18 → Alone × (q18b W R N g held o p ≡ false)
   taken_if_18 a (early m e) q = absurd (omega (arith, e, outline_most o (leb p.turn most_turn) (2 ^ p.turn) R))
   taken_if_18 a (short e7 e12) q = absurd (omega arith)
   taken_if_18 a (taken e7 e12 e18) q = (passing e7 e12, e18)
   taken_if_18 a (full e7 e12 e18 e14) q = absurd (omega arith)
   taken_if_18 a (entered e7 e12 e18 e14) q = absurd (omega arith)
 
-  18_if_taken : (a : Committing) → Fate a → Alone → (q18b W R N g held o p ≡ true → ⊥) → number_of_commit a ≡ 18
+  18_if_taken : (a : Result Unit Refusal) → Fate a → Alone → (q18b W R N g held o p ≡ true → ⊥) → number_of_commit a ≡ 18
   18_if_taken a (early m e) c nope = absurd (omega (arith, sym (none_early c) ∙ e))
   18_if_taken a (short e7 e12) c nope = absurd (false≢true (sym e12 ∙ c.room))
   18_if_taken a (taken e7 e12 e18) c nope = refl
   18_if_taken a (full e7 e12 e18 e14) c nope = absurd (nope e18)
   18_if_taken a (entered e7 e12 e18 e14) c nope = absurd (nope e18)
 
-  not_13 : (a : Committing) → Fate a → number_of_commit a ≢ 13
+  not_13 : (a : Result Unit Refusal) → Fate a → number_of_commit a ≢ 13
   not_13 a (early m e) = omega (arith, e, outline_most o (leb p.turn most_turn) (2 ^ p.turn) R)
   not_13 a (short e7 e12) = omega arith
   not_13 a (taken e7 e12 e18) = omega arith
   not_13 a (full e7 e12 e18 e14) = omega arith
   not_13 a (entered e7 e12 e18 e14) = omega arith
 
-  not_5 : (a : Committing) → Fate a → number_of_commit a ≢ 5
+  not_5 : (a : Result Unit Refusal) → Fate a → number_of_commit a ≢ 5
   not_5 a (early m e) = λ q. outline_not_5 o (leb p.turn most_turn) (2 ^ p.turn) R (e ∙ q)
   not_5 a (short e7 e12) = omega arith
   not_5 a (taken e7 e12 e18) = omega arith
   not_5 a (full e7 e12 e18 e14) = omega arith
   not_5 a (entered e7 e12 e18 e14) = omega arith
 
-  committed_if_all : (a : Committing) → Fate a → Alone → q18b W R N g held o p ≡ true → q14b W R g Q held o p ≡ true → a ≡ Committed
+  committed_if_all : (a : Result Unit Refusal) → Fate a → Alone → q18b W R N g held o p ≡ true → q14b W R g Q held o p ≡ true → a ≡ Ok tt
   committed_if_all a (early m e) c f r = absurd (omega (arith, sym (none_early c) ∙ e))
   committed_if_all a (short e7 e12) c f r = absurd (false≢true (sym e12 ∙ c.room))
   committed_if_all a (taken e7 e12 e18) c f r = absurd (false≢true (sym e18 ∙ f))
@@ -125,7 +117,7 @@ module _ {W R N g words : ℕ} {s : List ℕ} (k : Kept W R N g words s) (o : Li
   abbrev held : List (List Rows)
   held = columns_runs s
 
-  abbrev answer : Committing
+  abbrev answer : Result Unit Refusal
   answer = commit_answer s o p n
 
   fate : CommitFate W R N g Q held o p n answer
@@ -142,10 +134,10 @@ module _ {W R N g words : ℕ} {s : List ℕ} (k : Kept W R N g words s) (o : Li
   free_there c =
       question_18 W R N g held o p (turn_keeps o p.turn R g n c) (some_side o (2 ^ p.turn) R g n c) (resolution_least k) (table k)
 
-  pub enters_there : answer ≡ Committed → Enters W R N g Q held o p n
+  pub enters_there : answer ≡ Ok tt → Enters W R N g Q held o p n
   enters_there e = enters W R N g Q held o p n answer fate e
 
-  pub commit_turn : answer ≡ Committed → p.turn ≤ most_turn
+  pub commit_turn : answer ≡ Ok tt → p.turn ≤ most_turn
   commit_turn e = turn_most o p.turn R g n (enters_there e).passes
 
   pub commit_not_5 : number_of_commit answer ≢ 5
@@ -155,12 +147,12 @@ module _ {W R N g words : ℕ} {s : List ℕ} (k : Kept W R N g words s) (o : Li
   commit_not_13 = not_13 W R N g Q held o p n answer fate
 
   -- what passes the tests is committed
-  pub commit_tested : Passes o (2 ^ p.turn) R g n → q18b W R N g held o p ≡ true → q14b W R g Q held o p ≡ true → answer ≡ Committed
+  pub commit_tested : Passes o (2 ^ p.turn) R g n → q18b W R N g held o p ≡ true → q14b W R g Q held o p ≡ true → answer ≡ Ok tt
   commit_tested c f r = committed_if_all W R N g Q held o p n answer fate c f r
 
   -- the cells that the strip holds
   module _ (C : Cells) (same : Same (In held) C) where
-    pub commit_fits : answer ≡ Committed → Question18 W R N g C o p
+    pub commit_fits : answer ≡ Ok tt → Question18 W R N g C o p
     commit_fits e =
         let f = enters_there e in
         q18_same _ _ same W R N g o p ((free_there f.passes).0 f.free)
@@ -175,7 +167,7 @@ module _ {W R N g words : ℕ} {s : List ℕ} (k : Kept W R N g words s) (o : Li
           18_if_taken W R N g Q held o p n answer fate c (λ e. a.1 (q18_same _ _ same W R N g o p ((free_there c).0 e))),
     )
 
-    pub commit_granted : AskedBefore13 s o (2 ^ p.turn) R g n → Question18 W R N g C o p → Question14 W R N g Q C o p → answer ≡ Committed
+    pub commit_granted : AskedBefore13 s o (2 ^ p.turn) R g n → Question18 W R N g C o p → Question14 W R N g Q C o p → answer ≡ Ok tt
     commit_granted a f r =
         let c = passes a in
         let f' = q18_same _ _ (same_sym same) W R N g o p f in

@@ -10,7 +10,7 @@ use Prim.Native.Nat.{ℕ, zero, suc, ◌+◌, ◌*◌, ◌^◌, ◌<◌}
 use native.Mathlib.Omega.{arith}
 use lib.Dec.{leb, eqb, eqb-suc-zero}
 use lib.ListN.{length, get_or}
-use Rattle.defs.specs.declared.Covering.TheVariants.{Runs, Refused}
+use Rattle.std.specs.Prelude.{Ok, Err}
 use Rattle.defs.specs.Meaning.Limits.{most_turn}
 use Rattle.defs.specs.Meaning.Turn.{turned}
 use Rattle.defs.specs.Meaning.Cell.{CoveredGap, Cells, Run}
@@ -92,18 +92,18 @@ pub record Granted (o : List ℕ) (t R g words n : ℕ) : Type 0 where
   pub room : q12b o (2 ^ t) R g words ≡ true
   pub count : n ≡ count_runs (piece_runs o t R g)
 
-pub granted : (o : List ℕ) (t R g words n : ℕ) → Runs n ≡ cover_answer o t R g words → Granted o t R g words n
+pub granted : (o : List ℕ) (t R g words n : ℕ) → Ok n ≡ cover_answer o t R g words → Granted o t R g words n
 unfolding cover_answer
 granted o t R g words n e =
     go (resolutionb R) refl (gapb g) (outline_no o (leb t most_turn) (2 ^ t) R) refl (q12b o (2 ^ t) R g words) refl e
   where
     go : (b : Bool) → resolutionb R ≡ b → (x : Bool) (m : ℕ) → outline_no o (leb t most_turn) (2 ^ t) R ≡ m → (c : Bool) →
         q12b o (2 ^ t) R g words ≡ c →
-        Runs n ≡
-        (ask b (Refused (refusal 16 0)) λ _.
-        ask x (Refused (refusal 21 0)) λ _.
-        ask (eqb m 0) (Refused (refusal m 1)) λ _.
-        ask c (Refused (refusal 12 1)) λ _. Runs (count_runs (piece_runs o t R g))) →
+        Ok n ≡
+        (ask b (Err (refusal 16 0)) λ _.
+        ask x (Err (refusal 21 0)) λ _.
+        ask (eqb m 0) (Err (refusal m 1)) λ _.
+        ask c (Err (refusal 12 1)) λ _. Ok (count_runs (piece_runs o t R g))) →
         Granted o t R g words n
     go false e3 x m e7 c e12 e = let z : ◌≡◌ {A = ℕ} 0 1 = cc in absurd (omega arith)
     go true e3 false m e7 c e12 e = let z : ◌≡◌ {A = ℕ} 0 1 = cc in absurd (omega arith)

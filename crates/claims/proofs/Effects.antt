@@ -9,11 +9,9 @@ use Prim.Native.Nat.{ℕ, ◌<◌}
 use native.Mathlib.Omega.{arith}
 use native.Mathlib.Decide.{dec_lt}
 use lib.ListN.{length, get_or}
+use Rattle.std.specs.Prelude.{Result, Ok, Err}
+use Rattle.defs.specs.declared.Refusal.{Refusal}
 use Rattle.defs.specs.declared.Position.{Position}
-use Rattle.defs.specs.declared.Placing.{Placing}
-use Rattle.defs.specs.declared.Placing.TheVariants.{Placed, Refused as NotPlaced}
-use Rattle.defs.specs.declared.Committing.{Committing}
-use Rattle.defs.specs.declared.Committing.TheVariants.{Committed, Refused as NotCommitted}
 use Rattle.defs.specs.Meaning.Outline.{sides, KeepsOrder}
 use Rattle.defs.specs.Meaning.Turn.{turned}
 use Rattle.defs.specs.Meaning.Strip.{resolution_of, columns_of, gap_of}
@@ -23,6 +21,7 @@ use Rattle.defs.specs.Computing.Cells.{Rows, in_rows}
 use Rattle.defs.specs.Computing.Words.{columns_runs}
 use Rattle.defs.specs.Computing.Search.{entered}
 use Rattle.defs.specs.Computing.Calls.{place_answer, commit_answer, EnteredLeaves, PlaceLeaves, CommitLeaves}
+use Rattle.laws.proofs.Granted.{no_grant, same_grant}
 use Rattle.tables.proofs.Tables.{In}
 use Rattle.tables.proofs.Sets.{Same}
 use Rattle.tables.proofs.Entered.{entered_cells}
@@ -31,8 +30,8 @@ use Rattle.claims.specs.Trace.{Call, PlaceCall, CommitCall, place_call, ask_call
 use Rattle.claims.proofs.Invariant.{Kept}
 use Rattle.claims.proofs.Passing.{asked, some_side}
 use Rattle.claims.proofs.KeptStrip.{table, resolution_least}
-use Rattle.claims.proofs.PlaceAnswers.{same_position, refused_none, found_there, best_there}
-use Rattle.claims.proofs.CommitAnswers.{refused_nothing, turn_keeps, free_there, enters_there}
+use Rattle.claims.proofs.PlaceAnswers.{found_there, best_there}
+use Rattle.claims.proofs.CommitAnswers.{turn_keeps, free_there, enters_there}
 
 -- an outline in order is entered at a position on the strip
 pub record Entry (W R N : ℕ) (s s' o : List ℕ) (p : Position) : Type 0 where
@@ -69,7 +68,7 @@ module _ {W R N g words : ℕ} {s : List ℕ} (k : Kept W R N g words s) (s' : L
           λ c. subst (λ (rs : List Rows). in_rows rs j ≡ true) (sym (rows i)) (cells.1 c),
         )
 
-  pub place_entry : (o : List ℕ) (mask n : ℕ) (p : Position) → place_answer s o mask n ≡ Placed p → EnteredLeaves s o p s' →
+  pub place_entry : (o : List ℕ) (mask n : ℕ) (p : Position) → place_answer s o mask n ≡ Ok p → EnteredLeaves s o p s' →
       Entry W R N s s' o p
   unfolding Question10
   place_entry o mask n p there l =
@@ -82,7 +81,7 @@ module _ {W R N g words : ℕ} {s : List ℕ} (k : Kept W R N g words s) (s' : L
         leaves = l;
       }
 
-  pub commit_entry : (o : List ℕ) (p : Position) (n : ℕ) → commit_answer s o p n ≡ Committed → EnteredLeaves s o p s' →
+  pub commit_entry : (o : List ℕ) (p : Position) (n : ℕ) → commit_answer s o p n ≡ Ok tt → EnteredLeaves s o p s' →
       Entry W R N s s' o p
   commit_entry o p n there l =
       let f = enters_there k o p n there in
@@ -93,21 +92,21 @@ module _ {W R N g words : ℕ} {s : List ℕ} (k : Kept W R N g words s) (s' : L
         leaves = l;
       }
 
-  place_effect : (c : PlaceCall) (a : Placing) → c.answer ≡ a → Step (place_call c) s s' → PlaceLeaves s c.outline a s' →
+  place_effect : (c : PlaceCall) (a : Result Position Refusal) → c.answer ≡ a → Step (place_call c) s s' → PlaceLeaves s c.outline a s' →
       Effect W R N s s' (place_call c)
   unfolding Step Puts Changes PlaceLeaves
-  place_effect c (Placed p) e t l =
-      enters c.outline p (refl, e) (λ v q h. (h.0, same_position (sym e ∙ h.1))) (p, e)
+  place_effect c (Ok p) e t l =
+      enters c.outline p (refl, e) (λ v q h. (h.0, same_grant (sym e ∙ h.1))) (p, e)
       (place_entry c.outline c.mask (length c.work) p (sym t.answer ∙ e) l)
-  place_effect c (NotPlaced r) e t l = stays (λ o p h. refused_none (sym e ∙ h.1)) l
+  place_effect c (Err r) e t l = stays (λ o p h. no_grant (sym e ∙ h.1)) l
 
-  commit_effect : (c : CommitCall) (a : Committing) → c.answer ≡ a → Step (commit_call c) s s' →
+  commit_effect : (c : CommitCall) (a : Result Unit Refusal) → c.answer ≡ a → Step (commit_call c) s s' →
       CommitLeaves s c.outline c.at a s' → Effect W R N s s' (commit_call c)
   unfolding Step Puts Changes CommitLeaves
-  commit_effect c Committed e t l =
+  commit_effect c (Ok tt) e t l =
       enters c.outline c.at (refl, refl, e) (λ v q h. (h.0, h.1)) e
       (commit_entry c.outline c.at (length c.work) (sym t.answer ∙ e) l)
-  commit_effect c (NotCommitted r) e t l = stays (λ o p h. refused_nothing (sym e ∙ h.2)) l
+  commit_effect c (Err r) e t l = stays (λ o p h. no_grant (sym e ∙ h.2)) l
 
   pub effect : (c : Call) → Step c s s' → Effect W R N s s' c
   unfolding Step Puts

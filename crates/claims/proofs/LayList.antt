@@ -2,19 +2,17 @@
 -- Assumes nothing.
 use mathlib.Core.Path.{◌≡◌, refl, sym, ap, ◌∙◌}
 use mathlib.Core.Bool.{Bool, true}
-use mathlib.Core.Option.{none}
 use mathlib.Core.List.{List, []}
 use Prim.Native.Nat.{ℕ, ◌+◌, ◌*◌, ◌≤◌, ◌<◌}
 use native.Mathlib.Omega.{arith}
 use lib.Dec.{leb, eqb}
 use lib.ListN.{length, get_or, replicate}
 use borrow.Author.Tests.{leb-true}
+use Rattle.std.specs.Prelude.{None, Result, Ok, Err}
+use Rattle.defs.specs.declared.Position.{Position}
 use Rattle.defs.specs.declared.Refusal.{Refusal}
-use Rattle.defs.specs.declared.Fate.{Fate}
 use Rattle.defs.specs.declared.Entry.{Entry}
 use Rattle.defs.specs.declared.Totals.{Totals}
-use Rattle.defs.specs.declared.Opening.TheVariants.{Opened}
-use Rattle.defs.specs.declared.Laying.TheVariants.{Laid, Refused as NotLaid}
 use Rattle.defs.specs.Answer.{fate_words}
 use Rattle.defs.specs.Meaning.Sheet.{Piece, sheet_w, sheet_r, sheet_n}
 use Rattle.defs.specs.Meaning.Job.{Used, CountPlaced}
@@ -27,6 +25,7 @@ use Rattle.defs.specs.Computing.Lay.{fate_of, placed_in, used_in, lay_entries, l
 use Rattle.laws.proofs.Tests.{asked}
 use Rattle.laws.proofs.Questions.{question_21, figures_none, length_decides}
 use Rattle.laws.proofs.Entries.{length-entries_from}
+use Rattle.laws.proofs.Granted.{no_grant, same_grant}
 use Rattle.sheets.proofs.Asking.{some_none}
 use Rattle.sheets.proofs.Passing.{Held, none_held}
 use Rattle.sheets.proofs.Answers.{not_refused}
@@ -39,7 +38,7 @@ use Rattle.claims.proofs.LayTotals.{fate_at, placed_counted, used_reached, entri
 use Rattle.claims.proofs.LayStrips.{answer_at, fates_are, Strips, strips}
 
 -- a granted lay has passed 21 and 4, and the other questions of its sheet
-gap_and_length : (b : List ℕ) (gap fourth : Bool) → sheet_no b gap fourth ≡ none → (gap ≡ true) × (fourth ≡ true)
+gap_and_length : (b : List ℕ) (gap fourth : Bool) → sheet_no b gap fourth ≡ None → (gap ≡ true) × (fourth ≡ true)
 unfolding sheet_no
 gap_and_length b gap fourth e =
     let e1 = asked (q1b b) _ e some_none in
@@ -47,12 +46,6 @@ gap_and_length b gap fourth e =
     let e3 = asked (eqb (limits_no (sheet_w b) (sheet_r b) (sheet_n b)) 0) _ e2.1 some_none in
     let e21 = asked gap _ e3.1 some_none in
     (e21.0, (asked fourth _ e21.1 some_none).0)
-
-lay_refused : {t : Totals} (r : Refusal) → ¬ (NotLaid r ≡ Laid t)
-lay_refused r e = let z : ◌≡◌ {A = ℕ} 0 1 = cc in omega arith
-
-same_totals : {t u : Totals} → Laid t ≡ Laid u → t ≡ u
-same_totals e = cc
 
 pub record LayGranted (b : List ℕ) (g strip out work : ℕ) (t : Totals) : Type 0 where
   pub held : Held b
@@ -66,24 +59,24 @@ pub record LayGranted (b : List ℕ) (g strip out work : ℕ) (t : Totals) : Typ
         used = used_in (sheet_r b) (sheet_pieces b) (lay_entries b g strip work);
       }
 
-pub lay_granted : (b : List ℕ) (g strip out work : ℕ) (t : Totals) → Laid t ≡ lay_answer b g strip out work →
+pub lay_granted : (b : List ℕ) (g strip out work : ℕ) (t : Totals) → Ok t ≡ lay_answer b g strip out work →
     LayGranted b g strip out work t
 unfolding lay_answer
 lay_granted b g strip out work t e =
-    let h = not_refused (sheet_no b (gapb g) (lengthb (sheet_n b) strip)) (sym e) lay_refused in
+    let h = not_refused (sheet_no b (gapb g) (lengthb (sheet_n b) strip)) (sym e) (λ r. no_grant) in
     let passed = gap_and_length b (gapb g) (lengthb (sheet_n b) strip) h.0 in
-    let e15 = asked (leb (4 * length (piece_records b)) out) _ h.1 (lay_refused (refusal 15 0)) in
+    let e15 = asked (leb (4 * length (piece_records b)) out) _ h.1 (no_grant {r = refusal 15 0}) in
     record {
       held = none_held b (rw (passed.0, passed.1) at h.0);
       room = leb-true (4 * length (piece_records b)) out e15.0;
       gap = passed.0;
       long = passed.1;
-      totals = sym (same_totals e15.1);
+      totals = sym (same_grant e15.1);
     }
 
 -- an opened strip is one with the empty table
 pub opened_step : (W R N g : ℕ) (s s' : List ℕ) → figures_no W R N g ≡ 0 → lengthb N (length s) ≡ true →
-    Left W R N g (length s) (λ k. get_or (replicate N []) k []) s' → OpenStep W R N g s Opened s'
+    Left W R N g (length s) (λ k. get_or (replicate N []) k []) s' → OpenStep W R N g s (Ok tt) s'
 unfolding open_answer OpenLeaves
 opened_step W R N g s s' figures four l =
     record {
@@ -101,7 +94,7 @@ opened_step W R N g s s' figures four l =
     }
 
 module _ {b : List ℕ} {g : ℕ} {s out work : List ℕ} {t : Totals} {s' out' work' : List ℕ}
-    (x : LayStep b g s out work (Laid t) s' out' work') where
+    (x : LayStep b g s out work (Ok t) s' out' work') where
   abbrev W : ℕ
   W = sheet_w b
 
@@ -172,7 +165,7 @@ module _ {b : List ℕ} {g : ℕ} {s out work : List ℕ} {t : Totals} {s' out' 
   output m i h l =
       ap (λ (w : List ℕ). get_or w (4 * m + i) 0) x.output ∙
       entries_words_lem entries _ m i (omega (arith, entries_long)) l ∙
-      ap (λ (f : ℕ → Fate). get_or (fate_words (f m)) i 0) fates
+      ap (λ (f : ℕ → Result Position ℕ). get_or (fate_words (f m)) i 0) fates
 
   pub used : Used R (λ m. (call m).outline) (λ m. fate_of (call m).answer) (length ps) t.used
   used = rw (given.totals, ← fates) (used_reached R ps entries entries_long)

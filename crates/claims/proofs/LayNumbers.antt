@@ -6,8 +6,9 @@ use mathlib.Core.List.{List, [], ◌∷◌}
 use Prim.Native.Nat.{ℕ, ◌+◌}
 use native.Mathlib.Omega.{arith}
 use lib.ListN.{length}
-use Rattle.defs.specs.declared.Laying.{Laying}
-use Rattle.defs.specs.declared.Laying.TheVariants.{Laid, Refused as NotLaid}
+use Rattle.std.specs.Prelude.{Result, Ok, Err}
+use Rattle.defs.specs.declared.Refusal.{Refusal}
+use Rattle.defs.specs.declared.Totals.{Totals}
 use Rattle.defs.specs.Answer.{Outcome, laying}
 use Rattle.defs.specs.Meaning.Limits.{most_pieces}
 use Rattle.defs.specs.Meaning.Strip.{Length}
@@ -60,16 +61,16 @@ lay_on b g strip out G G' a f h =
     (asks_on 15 0 _ _ _ a
     (λ _. grants_on (G q4.0 q6.0) (G' q4.0 q6.0) a (f q4.0 q6.0 q4.1 q6.1))))))))))) h
 
-pub lay_asked : {b : List ℕ} {g : ℕ} {s out work s' out' work' : List ℕ} {a : Laying} → LayStep b g s out work a s' out' work' →
+pub lay_asked : {b : List ℕ} {g : ℕ} {s out work s' out' work' : List ℕ} {a : Result Totals Refusal} → LayStep b g s out work a s' out' work' →
     Answers (lay_questions b g (length s) (length out) (length work)) (laying a)
 lay_asked {b} {g} {s} {out} {work} {s'} {out'} {work'} {a} x =
     lay_on b g (length s) (length out) TwoValues (LaidTotals b g (length work)) (laying a) (λ Q rs long c. totals a x Q rs long c)
-    (subst (λ (r : Laying). Answers (lay_questions_to TwoValues b g (length s) (length out)) (laying r)) (sym x.answer)
+    (subst (λ (r : Result Totals Refusal). Answers (lay_questions_to TwoValues b g (length s) (length out)) (laying r)) (sym x.answer)
     (lay_answers b g (length s) (length out) (length work)))
   where
-    totals : (r : Laying) → LayStep b g s out work r s' out' work' → (Q : ℕ) (rs : List ℕ) → Length (sheet_n b) Q (length s) →
+    totals : (r : Result Totals Refusal) → LayStep b g s out work r s' out' work' → (Q : ℕ) (rs : List ℕ) → Length (sheet_n b) Q (length s) →
         PieceChain b rs → TwoValues Q rs (laying r).values → LaidTotals b g (length work) Q rs (laying r).values
-    totals (Laid t) y Q rs long c v =
+    totals (Ok t) y Q rs long c v =
         let l = lays_list y in
         record {
           pieces = l.pieces;
@@ -85,4 +86,4 @@ lay_asked {b} {g} {s} {out} {work} {s'} {out'} {work'} {a} x =
           reached = l.used;
           values_are = refl;
         }
-    totals (NotLaid r) y Q rs long c v = let e = ap length v.2 in absurd (omega arith)
+    totals (Err r) y Q rs long c v = let e = ap length v.2 in absurd (omega arith)

@@ -6,8 +6,9 @@ use mathlib.Core.List.{List, [], ◌∷◌}
 use Prim.Native.Nat.{ℕ, zero, suc, ◌+◌, ◌<◌, ◌≤◌}
 use native.Mathlib.Omega.{arith}
 use lib.ListN.{length, get_or}
-use Rattle.defs.specs.declared.Placing.{Placing}
-use Rattle.defs.specs.declared.Placing.TheVariants.{Placed, Refused}
+use Rattle.std.specs.Prelude.{Result, Ok, Err}
+use Rattle.defs.specs.declared.Position.{Position}
+use Rattle.defs.specs.declared.Refusal.{Refusal}
 use Rattle.defs.specs.Meaning.Limits.{most_gap}
 use Rattle.defs.specs.Meaning.Strip.{Limits, Length}
 use Rattle.defs.specs.Meaning.Sheet.{Piece}
@@ -23,18 +24,18 @@ use Rattle.claims.proofs.LayTables.{after_writable, answer_is, leaves_is}
 
 -- the answers of a job's calls, with n words in the work buffer
 module _ (W R N g Q n : ℕ) where
-  abbrev answer_to : List (List Rows) → Piece → Placing
+  abbrev answer_to : List (List Rows) → Piece → Result Position Refusal
   answer_to held p = place_on W R N g Q held p.outline p.mask n
 
   abbrev after : List (List Rows) → Piece → List (List Rows)
   after held p = held_after W R g held p.outline (answer_to held p)
 
-  answers : List (List Rows) → List Piece → List Placing
+  answers : List (List Rows) → List Piece → List (Result Position Refusal)
   answers held [] = []
   answers held (p ∷ ps) = answer_to held p ∷ answers (after held p) ps
 
-  pub answer_at : List (List Rows) → List Piece → ℕ → Placing
-  answer_at held ps m = get_or (answers held ps) m (Refused (refusal 0 0))
+  pub answer_at : List (List Rows) → List Piece → ℕ → Result Position Refusal
+  answer_at held ps m = get_or (answers held ps) m (Err (refusal 0 0))
 
   -- lay's entries are of these answers
   pub fates_are : (k : ℕ) (held : List (List Rows)) (ps : List Piece) (m : ℕ) →
@@ -55,7 +56,7 @@ pub record Strips (W R N g Q words : ℕ) (work : List ℕ) (held : List (List R
       (place_tries (strip m) (piece_at ps m).outline (piece_at ps m).mask (length work)) (strip (suc m)) (cleared work)
 
 -- a strip before the one that a call leaves
-record Before (W R N g words : ℕ) (held : List (List Rows)) (p : Piece) (work : List ℕ) (a : Placing) (s' : List ℕ) : Type 0 where
+record Before (W R N g words : ℕ) (held : List (List Rows)) (p : Piece) (work : List ℕ) (a : Result Position Refusal) (s' : List ℕ) : Type 0 where
   strip : List ℕ
   left : Left W R N g words (λ k. get_or held k []) strip
   step : PlaceStep strip p.outline p.mask work a (place_tries strip p.outline p.mask (length work)) s' (cleared work)
@@ -65,10 +66,10 @@ strips_from s f zero = s
 strips_from s f (suc m) = f m
 
 module _ {W R N g Q words : ℕ} (limits : Limits W R N) (small : g ≤ most_gap) (long : Length N Q words) (work : List ℕ) where
-  before : (held : List (List Rows)) (p : Piece) → Writable W N Q held → (a : Placing) → a ≡ answer_to W R N g Q (length work) held p →
+  before : (held : List (List Rows)) (p : Piece) → Writable W N Q held → (a : Result Position Refusal) → a ≡ answer_to W R N g Q (length work) held p →
       (s' : List ℕ) → Left W R N g words (λ k. get_or (held_after W R g held p.outline a) k []) s' → Before W R N g words held p work a s'
   unfolding held_after PlaceLeaves
-  before held p w (Placed q) e s' l =
+  before held p w (Ok q) e s' l =
       let left : Left W R N g words (λ k. get_or held k []) (written W R N g Q held) =
       rw long.words_are (written_left W R N g Q held limits small long.records w) in
       record {
@@ -82,7 +83,7 @@ module _ {W R N g Q words : ℕ} (limits : Limits W R N) (small : g ≤ most_gap
               zeros = refl;
             };
       }
-  before held p w (Refused r) e s' l =
+  before held p w (Err r) e s' l =
       record {
         strip = s';
         left = l;

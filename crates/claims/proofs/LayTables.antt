@@ -9,9 +9,9 @@ use native.Mathlib.Omega.{arith}
 use lib.ListN.{length, get_or}
 use lib.Seq.{ext_get_or}
 use borrow.Author.Tests.{leb-true}
+use Rattle.std.specs.Prelude.{Result, Ok}
+use Rattle.defs.specs.declared.Refusal.{Refusal}
 use Rattle.defs.specs.declared.Position.{Position}
-use Rattle.defs.specs.declared.Placing.{Placing}
-use Rattle.defs.specs.declared.Placing.TheVariants.{Placed}
 use Rattle.defs.specs.Meaning.Strip.{Length}
 use Rattle.defs.specs.Computing.Cells.{Rows, piece_runs}
 use Rattle.defs.specs.Computing.Words.{columns_runs}
@@ -40,7 +40,7 @@ entered_writable W R N g Q held o p w room =
       fits = leb-true _ _ room;
     }
 
-pub after_writable : (W R N g Q n mask : ℕ) (held : List (List Rows)) (o : List ℕ) (a : Placing) → Fate W R N g Q held o mask n a →
+pub after_writable : (W R N g Q n mask : ℕ) (held : List (List Rows)) (o : List ℕ) (a : Result Position Refusal) → Fate W R N g Q held o mask n a →
     Writable W N Q held → Writable W N Q (held_after W R g held o a)
 unfolding held_after
 after_writable W R N g Q n mask held o a (early m e) w = w
@@ -78,6 +78,6 @@ module _
       ) refl
 
   pub leaves_is : (o : List ℕ) (p : Position) (s' : List ℕ) → Left W R N g words (λ k. get_or (entered W R g held o p) k []) s' →
-      PlaceLeaves s o (Placed p) s'
+      PlaceLeaves s o (Ok p) s'
   unfolding PlaceLeaves
   leaves_is o p s' l = rw (left.width, left.resolution, left.columns, left.gap, left.long, table_is) l

@@ -5,11 +5,10 @@ use mathlib.Core.List.{List, []}
 use Prim.Native.Nat.{ℕ, zero, suc, ◌≤◌, ◌<◌}
 use native.Mathlib.Omega.{arith}
 use lib.ListN.{length, get_or}
-use Rattle.defs.specs.declared.Placing.{Placing}
-use Rattle.defs.specs.declared.Asking.{Asking}
-use Rattle.defs.specs.declared.Committing.{Committing}
+use Rattle.std.specs.Prelude.{Result, Ok}
+use Rattle.defs.specs.declared.Position.{Position}
+use Rattle.defs.specs.declared.Refusal.{Refusal}
 use Rattle.defs.specs.declared.Totals.{Totals}
-use Rattle.defs.specs.declared.Laying.TheVariants.{Laid}
 use Rattle.defs.specs.Answer.{Outcome, placing, asking, committing}
 use Rattle.defs.specs.Meaning.Cell.{Cells}
 use Rattle.defs.specs.Meaning.Strip.{Length, WellFormed, Holds, width_of, resolution_of, columns_of, gap_of}
@@ -42,13 +41,13 @@ of_list {W} {R} {N} {g} {x} t = demand3_holds W R N g x t
 call_answers : (s s' : List ℕ) (C : Cells) → Same (Holds s) C → (c : Call) → Step c s s' → Answers (call_questions s C c) (outcome_in c)
 unfolding Step call_questions outcome_in
 call_answers s s' C same (place_call c) t =
-    subst (λ (a : Placing). Answers (place_questions s C c.outline c.mask (length c.work)) (placing a)) (sym t.answer)
+    subst (λ (a : Result Position Refusal). Answers (place_questions s C c.outline c.mask (length c.work)) (placing a)) (sym t.answer)
     (place_answers s C (λ _. same) c.outline c.mask (length c.work))
 call_answers s s' C same (ask_call c) t =
-    subst (λ (a : Asking). Answers (ask_questions s C c.outline c.mask (length c.work)) (asking a)) (sym t.answer)
+    subst (λ (a : Result Position Refusal). Answers (ask_questions s C c.outline c.mask (length c.work)) (asking a)) (sym t.answer)
     (ask_answers s C (λ _. same) c.outline c.mask (length c.work))
 call_answers s s' C same (commit_call c) t =
-    subst (λ (a : Committing). Answers (commit_questions s C c.outline c.at (length c.work)) (committing a)) (sym t.answer)
+    subst (λ (a : Result Unit Refusal). Answers (commit_questions s C c.outline c.at (length c.work)) (committing a)) (sym t.answer)
     (commit_answers s C (λ _. same) c.outline c.at (length c.work))
 
 pub list_answers_lem : {W R N g : ℕ} {x : Calls} → Trace W R N g x → (m : ℕ) → m < x.count →
@@ -68,7 +67,7 @@ places_answers : {W R N g : ℕ} {x : PlaceCalls} → PlaceTrace W R N g x → (
     (placing (x.call m).answer)
 places_answers {W} {R} {N} {g} {x} t m h =
     subst
-    (λ (a : Placing).
+    (λ (a : Result Position Refusal).
     Answers
     (place_questions (x.strip m) (PlacedCells W R N g x.call m) (x.call m).outline (x.call m).mask (length (x.call m).work))
     (placing a))
@@ -119,7 +118,7 @@ fate_same : {W W' R R' N N' g g' words words' : ℕ} (Q : ℕ) (C : Cells) (o : 
 fate_same Q C o mask a ew er en eg el h = rw (← ew, ← er, ← en, ← eg, ← el) h
 
 module _ {b : List ℕ} {g : ℕ} {s out work : List ℕ} {t : Totals} {s' out' work' : List ℕ}
-    (x : LayStep b g s out work (Laid t) s' out' work')
+    (x : LayStep b g s out work (Ok t) s' out' work')
     (l : LaysList b g s t s' out' work) (Q : ℕ) (long : Length (sheet_n b) Q (length s)) (m : ℕ) (h : m < length l.pieces) where
   held : Held b
   held = (lay_granted b g (length s) (length out) (length work) t x.answer).held

@@ -3,8 +3,8 @@
 -- Assumes nothing.
 use mathlib.Core.Path.{◌≡◌}
 use mathlib.Core.List.{List}
-use mathlib.Core.Option.{none, some}
 use Prim.Native.Nat.{ℕ, ◌≤◌, ◌<◌}
+use Rattle.std.specs.Prelude.{Some, None}
 use Rattle.defs.specs.declared.Position.{Position}
 use Rattle.defs.specs.Meaning.Outline.{sides}
 use Rattle.defs.specs.Meaning.Placing.{Fits, Best}
@@ -30,10 +30,10 @@ module _ (o : List ℕ) (mask R g words : ℕ) (passes : Passes o mask R g words
   some_side = has_side o asked.q7
 
   module _ (W N : ℕ) (held : List (List Rows)) (table : Table W N held) where
-    pub best_found : (p : Position) → best_below W R N g held o mask 4 ≡ some p → Best W R N g (In held) o mask p
+    pub best_found : (p : Position) → best_below W R N g held o mask 4 ≡ Some p → Best W R N g (In held) o mask p
     best_found = searching.best_found W R N g held o mask asked.q10 some_side resolution_positive table
 
-    pub none_found : best_below W R N g held o mask 4 ≡ none → ¬ Question13 W R N g (In held) o mask
+    pub none_found : best_below W R N g held o mask 4 ≡ None → ¬ Question13 W R N g (In held) o mask
     none_found = searching.none_found W R N g held o mask asked.q10 some_side resolution_positive table
 
     pub question_14 : (Q : ℕ) (p : Position) → Fits W R N g (In held) o mask p →

@@ -7,12 +7,9 @@ use native.Mathlib.Omega.{arith}
 use lib.ListN.{length, drop, replicate, length-append, length-drop, length-map}
 use lib.Seq.{drop-append_seam}
 use borrow.Author.Tests.{leb-true}
+use Rattle.std.specs.Prelude.{Ok}
 use Rattle.defs.specs.declared.Figures.{Figures}
 use Rattle.defs.specs.declared.Totals.{Totals}
-use Rattle.defs.specs.declared.Covering.TheVariants.{Runs}
-use Rattle.defs.specs.declared.Reading.TheVariants.{Read}
-use Rattle.defs.specs.declared.Writing.TheVariants.{Written}
-use Rattle.defs.specs.declared.Laying.TheVariants.{Laid}
 use Rattle.defs.specs.Meaning.Sheet.{Piece, SheetHolds, list_words, sheet_w, sheet_r, sheet_n}
 use Rattle.defs.specs.Computing.Cells.{piece_runs, count_runs}
 use Rattle.defs.specs.Computing.Words.{records_of}
@@ -39,7 +36,7 @@ past k ws out out' long room is =
       stays = ap (drop k) is ∙ ap (λ (n : ℕ). drop n (ws ++ drop k out)) (sym long) ∙ drop-append_seam ws (drop k out);
     }
 
-pub cover_past : {o : List ℕ} {t R g n : ℕ} {out out' : List ℕ} → CoverStep o t R g out (Runs n) out' → Past (3 * n) out out'
+pub cover_past : {o : List ℕ} {t R g n : ℕ} {out out' : List ℕ} → CoverStep o t R g out (Ok n) out' → Past (3 * n) out out'
 unfolding cover_output
 cover_past {o} {t} {R} {g} {n} {out} {out'} x =
     let h = granted o t R g (length out) n x.answer in
@@ -48,13 +45,13 @@ cover_past {o} {t} {R} {g} {n} {out} {out'} x =
     past (3 * n) (runs_words 0 (piece_runs o t R g)) out out' (omega (arith, runs_length 0 (piece_runs o t R g), h.count))
     (omega (arith, h.count)) x.output
 
-pub read_past : {b out out' : List ℕ} {f : Figures} {ps : List Piece} → ReadStep b out (Read f) out' → SheetHolds b ps →
+pub read_past : {b out out' : List ℕ} {f : Figures} {ps : List Piece} → ReadStep b out (Ok f) out' → SheetHolds b ps →
     Past (length (list_words ps)) out out'
 read_past {b} {out} {out'} {f} {ps} x h =
     let g = read_granted b (length out) f x.answer in
     rw (← holds_pieces h) (past (length (list_words (sheet_pieces b))) (list_words (sheet_pieces b)) out out' refl g.room (list_read x))
 
-pub write_past : {W R N n : ℕ} {ws out out' : List ℕ} → WriteStep W R N ws out (Written n) out' → Past n out out'
+pub write_past : {W R N n : ℕ} {ws out out' : List ℕ} → WriteStep W R N ws out (Ok n) out' → Past n out out'
 unfolding write_output
 write_past {W} {R} {N} {n} {ws} {out} {out'} x =
     let g = write_granted W R N ws (length out) n x.answer in
@@ -76,7 +73,7 @@ entries_long b g strip work =
     )
 
 pub lay_past : {b : List ℕ} {g : ℕ} {s out work s' out' work' : List ℕ} {t : Totals} {ps : List Piece} →
-    LayStep b g s out work (Laid t) s' out' work' → SheetHolds b ps → Past (4 * length ps) out out'
+    LayStep b g s out work (Ok t) s' out' work' → SheetHolds b ps → Past (4 * length ps) out out'
 unfolding lay_output
 lay_past {b} {g} {s} {out} {work} {s'} {out'} {work'} {t} {ps} x h =
     let given = lay_granted b g (length s) (length out) (length work) t x.answer in

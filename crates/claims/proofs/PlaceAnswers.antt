@@ -5,13 +5,11 @@ use mathlib.Core.Path.{◌≡◌, refl, sym, ap, subst, ◌∙◌}
 use mathlib.Core.Logic.{◌↔◌, ◌≢◌}
 use mathlib.Core.Bool.{Bool, true, false, false≢true, true≢false}
 use mathlib.Core.List.{List}
-use mathlib.Core.Option.{none, some}
 use Prim.Native.Nat.{ℕ}
 use native.Mathlib.Omega.{arith}
+use Rattle.std.specs.Prelude.{Some, None, Result, Ok, Err}
 use Rattle.defs.specs.declared.Position.{Position}
 use Rattle.defs.specs.declared.Refusal.{Refusal}
-use Rattle.defs.specs.declared.Placing.{Placing}
-use Rattle.defs.specs.declared.Placing.TheVariants.{Placed, Refused}
 use Rattle.defs.specs.Answer.{number_of}
 use Rattle.defs.specs.Meaning.Cell.{Cells}
 use Rattle.defs.specs.Meaning.Placing.{Best}
@@ -20,6 +18,7 @@ use Rattle.defs.specs.Computing.Cells.{Rows}
 use Rattle.defs.specs.Computing.Words.{records_of, columns_runs}
 use Rattle.defs.specs.Computing.Search.{best_below}
 use Rattle.defs.specs.Computing.Calls.{place_answer, q9b, q14b}
+use Rattle.laws.proofs.Granted.{no_grant, same_grant}
 use Rattle.geom.proofs.Checks.{Passes, checks}
 use Rattle.tables.proofs.Tables.{In}
 use Rattle.tables.proofs.Sets.{Same, same_sym, best_same, q13_same, q14_same}
@@ -29,68 +28,48 @@ use Rattle.claims.proofs.Fates.{Fate, early, short, no_place, full, placed}
 use Rattle.claims.proofs.Passing.{asked, best_found, none_found, question_14}
 use Rattle.claims.proofs.KeptStrip.{table, resolution_least, strip_formed, place_fate}
 
-is_placed : Placing → Bool
-is_placed (Placed p) = true
-is_placed (Refused r) = false
-
-placed_not_refused : {p : Position} (a : Placing) → a ≡ Placed p → is_placed a ≡ false → ⊥
-unfolding is_placed
-placed_not_refused a e f = true≢false (sym (ap is_placed e) ∙ f)
-
-pub refused_none : {r : Refusal} {p : Position} → Refused r ≡ Placed p → ⊥
-unfolding is_placed
-refused_none e = placed_not_refused _ e refl
-
-position_in : Position → Placing → Position
-position_in d (Placed p) = p
-position_in d (Refused r) = d
-
-pub same_position : {p q : Position} → Placed p ≡ Placed q → p ≡ q
-unfolding position_in
-same_position {p} e = ap (position_in p) e
-
 -- what each fate says
 module _ (W R N g Q : ℕ) (held : List (List Rows)) (o : List ℕ) (mask words : ℕ) where
   pub record Found (p : Position) : Type 0 where
     pub passes : Passes o mask R g words
-    pub best : best_below W R N g held o mask 4 ≡ some p
+    pub best : best_below W R N g held o mask 4 ≡ Some p
     pub room : q14b W R g Q held o p ≡ true
 
-  pub found : (a : Placing) (p : Position) → Fate W R N g Q held o mask words a → a ≡ Placed p → Found p
-  found a p (early n e) q = absurd (placed_not_refused _ q (unfold is_placed in refl))
-  found a p (short e7 e12) q = absurd (placed_not_refused _ q (unfold is_placed in refl))
-  found a p (no_place e7 e12 e13) q = absurd (placed_not_refused _ q (unfold is_placed in refl))
-  found a p (full e7 e12 p' e13 e14) q = absurd (placed_not_refused _ q (unfold is_placed in refl))
+  pub found : (a : Result Position Refusal) (p : Position) → Fate W R N g Q held o mask words a → a ≡ Ok p → Found p
+  found a p (early n e) q = absurd (no_grant q)
+  found a p (short e7 e12) q = absurd (no_grant q)
+  found a p (no_place e7 e12 e13) q = absurd (no_grant q)
+  found a p (full e7 e12 p' e13 e14) q = absurd (no_grant q)
   found a p (placed e7 e12 p' e13 e14) q =
-      subst Found (same_position q) (record { passes = record { none_no = e7; room = e12 }; best = e13; room = e14 })
+      subst Found (same_grant q) (record { passes = record { none_no = e7; room = e12 }; best = e13; room = e14 })
 
-  none_if_13 : (a : Placing) → Fate W R N g Q held o mask words a → number_of a ≡ 13 →
-      Passes o mask R g words × (best_below W R N g held o mask 4 ≡ none)
+  none_if_13 : (a : Result Position Refusal) → Fate W R N g Q held o mask words a → number_of a ≡ 13 →
+      Passes o mask R g words × (best_below W R N g held o mask 4 ≡ None)
   none_if_13 a (early n e) q = absurd (omega (arith, e, outline_most o (q9b mask) mask R))
   none_if_13 a (short e7 e12) q = absurd (omega arith)
   none_if_13 a (no_place e7 e12 e13) q = (record { none_no = e7; room = e12 }, e13)
   none_if_13 a (full e7 e12 p e13 e14) q = absurd (omega arith)
   none_if_13 a (placed e7 e12 p e13 e14) q = absurd (omega arith)
 
-  13_if_none : (a : Placing) → Fate W R N g Q held o mask words a → Passes o mask R g words →
-      ((p : Position) → best_below W R N g held o mask 4 ≡ some p → ⊥) → number_of a ≡ 13
+  13_if_none : (a : Result Position Refusal) → Fate W R N g Q held o mask words a → Passes o mask R g words →
+      ((p : Position) → best_below W R N g held o mask 4 ≡ Some p → ⊥) → number_of a ≡ 13
   13_if_none a (early n e) c nope = absurd (omega (arith, sym c.none_no ∙ e))
   13_if_none a (short e7 e12) c nope = absurd (false≢true (sym e12 ∙ c.room))
   13_if_none a (no_place e7 e12 e13) c nope = refl
   13_if_none a (full e7 e12 p e13 e14) c nope = absurd (nope p e13)
   13_if_none a (placed e7 e12 p e13 e14) c nope = absurd (nope p e13)
 
-  not_5 : (a : Placing) → Fate W R N g Q held o mask words a → number_of a ≢ 5
+  not_5 : (a : Result Position Refusal) → Fate W R N g Q held o mask words a → number_of a ≢ 5
   not_5 a (early n e) = λ q. outline_not_5 o (q9b mask) mask R (e ∙ q)
   not_5 a (short e7 e12) = omega arith
   not_5 a (no_place e7 e12 e13) = omega arith
   not_5 a (full e7 e12 p e13 e14) = omega arith
   not_5 a (placed e7 e12 p e13 e14) = omega arith
 
-  placed_if_all : (a : Placing) → Fate W R N g Q held o mask words a → Passes o mask R g words →
-      (best_below W R N g held o mask 4 ≡ none → ⊥) →
-      ((p : Position) → best_below W R N g held o mask 4 ≡ some p → q14b W R g Q held o p ≡ true) →
-      (p : Position) × (a ≡ Placed p)
+  placed_if_all : (a : Result Position Refusal) → Fate W R N g Q held o mask words a → Passes o mask R g words →
+      (best_below W R N g held o mask 4 ≡ None → ⊥) →
+      ((p : Position) → best_below W R N g held o mask 4 ≡ Some p → q14b W R g Q held o p ≡ true) →
+      (p : Position) × (a ≡ Ok p)
   placed_if_all a (early n e) c some_one room = absurd (omega (arith, sym c.none_no ∙ e))
   placed_if_all a (short e7 e12) c some_one room = absurd (false≢true (sym e12 ∙ c.room))
   placed_if_all a (no_place e7 e12 e13) c some_one room = absurd (some_one e13)
@@ -104,16 +83,16 @@ module _ {W R N g words : ℕ} {s : List ℕ} (k : Kept W R N g words s) (o : Li
   abbrev held : List (List Rows)
   held = columns_runs s
 
-  abbrev answer : Placing
+  abbrev answer : Result Position Refusal
   answer = place_answer s o mask n
 
   fate : Fate W R N g Q held o mask n answer
   fate = place_fate k o mask n
 
-  pub found_there : (p : Position) → answer ≡ Placed p → Found W R N g Q held o mask n p
+  pub found_there : (p : Position) → answer ≡ Ok p → Found W R N g Q held o mask n p
   found_there p e = found W R N g Q held o mask n answer p fate e
 
-  pub best_there : (p : Position) → answer ≡ Placed p → Best W R N g (In held) o mask p
+  pub best_there : (p : Position) → answer ≡ Ok p → Best W R N g (In held) o mask p
   best_there p e =
       let f = found_there p e in
       best_found o mask R g n f.passes W N held (table k) p f.best
@@ -130,13 +109,13 @@ module _ {W R N g words : ℕ} {s : List ℕ} (k : Kept W R N g words s) (o : Li
 
   -- the cells that the strip holds
   module _ (C : Cells) (same : Same (In held) C) where
-    pub place_best : (p : Position) → answer ≡ Placed p → Best W R N g C o mask p
+    pub place_best : (p : Position) → answer ≡ Ok p → Best W R N g C o mask p
     place_best p e = best_same _ _ same W R N g o mask p (best_there p e)
 
-    found_fits : Passes o mask R g n → (p : Position) → best_below W R N g held o mask 4 ≡ some p → Best W R N g C o mask p
+    found_fits : Passes o mask R g n → (p : Position) → best_below W R N g held o mask 4 ≡ Some p → Best W R N g C o mask p
     found_fits c p e = best_same _ _ same W R N g o mask p (best_found o mask R g n c W N held (table k) p e)
 
-    none_fits : Passes o mask R g n → best_below W R N g held o mask 4 ≡ none → ¬ Question13 W R N g C o mask
+    none_fits : Passes o mask R g n → best_below W R N g held o mask 4 ≡ None → ¬ Question13 W R N g C o mask
     none_fits c e q = none_found o mask R g n c W N held (table k) e (q13_same _ _ (same_sym same) W R N g o mask q)
 
     pub place_13 : (number_of answer ≡ 13) ↔ (AskedBefore13 s o mask R g n × ¬ Question13 W R N g C o mask)
@@ -151,7 +130,7 @@ module _ {W R N g words : ℕ} {s : List ℕ} (k : Kept W R N g words s) (o : Li
     )
 
     pub place_granted : AskedBefore13 s o mask R g n → Question13 W R N g C o mask →
-        ((p : Position) → Best W R N g C o mask p → Question14 W R N g Q C o p) → (p : Position) × (answer ≡ Placed p)
+        ((p : Position) → Best W R N g C o mask p → Question14 W R N g Q C o p) → (p : Position) × (answer ≡ Ok p)
     place_granted a f room =
         let c = passes a in
         placed_if_all W R N g Q held o mask n answer fate c (λ e. none_fits c e f)

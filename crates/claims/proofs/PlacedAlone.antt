@@ -6,21 +6,21 @@ use mathlib.Core.Bool.{Bool, true, false}
 use mathlib.Core.List.{List}
 use Prim.Native.Nat.{ℕ}
 use lib.ListN.{length}
+use Rattle.std.specs.Prelude.{Ok}
 use Rattle.defs.specs.declared.Position.{Position}
-use Rattle.defs.specs.declared.Placing.TheVariants.{Placed}
-use Rattle.defs.specs.declared.Committing.TheVariants.{Committed}
 use Rattle.defs.specs.Meaning.Strip.{Holds, width_of, resolution_of, columns_of, gap_of}
 use Rattle.defs.specs.Meaning.Placing.{cells_at}
 use Rattle.defs.specs.Computing.Words.{well_formedb, columns_runs}
 use Rattle.defs.specs.Computing.Calls.{refusal, PlaceStep, CommitStep, place_answer, commit_answer, PlaceLeaves, CommitLeaves}
 use Rattle.laws.proofs.Complete.{question_5}
+use Rattle.laws.proofs.Granted.{no_grant}
 use Rattle.tables.proofs.Tables.{In}
 use Rattle.tables.proofs.Sets.{Same}
 use Rattle.tables.proofs.Held.{holds_table}
 use Rattle.claims.proofs.Invariant.{Kept}
 use Rattle.claims.proofs.KeptStrip.{holds_held}
-use Rattle.claims.proofs.PlaceAnswers.{refused_none, place_best}
-use Rattle.claims.proofs.CommitAnswers.{refused_nothing, commit_fits}
+use Rattle.claims.proofs.PlaceAnswers.{place_best}
+use Rattle.claims.proofs.CommitAnswers.{commit_fits}
 use Rattle.claims.proofs.Effects.{Entry, entry_cells, place_entry, commit_entry}
 use Rattle.claims.specs.Numbers.{PlacedAlone, CommittedAlone}
 
@@ -45,19 +45,19 @@ module _ (s : List ℕ) (w : well_formedb s ≡ true) where
 
 -- 5 has passed
 place_passed_5 : (s o : List ℕ) (mask words : ℕ) (p : Position) (b : Bool) → well_formedb s ≡ b →
-    Placed p ≡ place_answer s o mask words → well_formedb s ≡ true
+    Ok p ≡ place_answer s o mask words → well_formedb s ≡ true
 unfolding place_answer
 place_passed_5 s o mask words p true e q = e
-place_passed_5 s o mask words p false e q = absurd (refused_none {r = refusal 5 0} (sym (q ∙ rw e refl)))
+place_passed_5 s o mask words p false e q = absurd (no_grant {r = refusal 5 0} (sym (q ∙ rw e refl)))
 
 commit_passed_5 : (s o : List ℕ) (p : Position) (words : ℕ) (b : Bool) → well_formedb s ≡ b →
-    Committed ≡ commit_answer s o p words → well_formedb s ≡ true
+    (Ok tt) ≡ commit_answer s o p words → well_formedb s ≡ true
 unfolding commit_answer
 commit_passed_5 s o p words true e q = e
-commit_passed_5 s o p words false e q = absurd (refused_nothing {r = refusal 5 0} (sym (q ∙ rw e refl)))
+commit_passed_5 s o p words false e q = absurd (no_grant {r = refusal 5 0} (sym (q ∙ rw e refl)))
 
 pub placed_alone : {s o : List ℕ} {mask : ℕ} {work : List ℕ} {p : Position} {n : ℕ} {s' work' : List ℕ} →
-    PlaceStep s o mask work (Placed p) n s' work' → PlacedAlone s o mask p s'
+    PlaceStep s o mask work (Ok p) n s' work' → PlacedAlone s o mask p s'
 unfolding PlaceLeaves
 placed_alone {s} {o} {mask} {work} {p} {n} {s'} x =
     let w = place_passed_5 s o mask (length work) p (well_formedb s) refl x.answer in
@@ -75,7 +75,7 @@ placed_alone {s} {o} {mask} {work} {p} {n} {s'} x =
     }
 
 pub committed_alone : {s o : List ℕ} {p : Position} {work s' work' : List ℕ} →
-    CommitStep s o p work Committed s' work' → CommittedAlone s o p s'
+    CommitStep s o p work (Ok tt) s' work' → CommittedAlone s o p s'
 unfolding CommitLeaves
 committed_alone {s} {o} {p} {work} {s'} x =
     let w = commit_passed_5 s o p (length work) (well_formedb s) refl x.answer in

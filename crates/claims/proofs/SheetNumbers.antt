@@ -3,17 +3,14 @@
 use mathlib.Core.Path.{◌≡◌, refl, sym, ap, subst, ◌∙◌}
 use mathlib.Core.Bool.{Bool, true, false, cond, ◌&&◌}
 use mathlib.Core.List.{List, [], ◌∷◌, map}
-use mathlib.Core.Option.{Option, none, some}
 use Prim.Native.Nat.{ℕ, zero, suc, ◌+◌, ◌*◌, ◌/◌, ◌≤◌}
 use native.Mathlib.Omega.{arith}
 use lib.Dec.{leb, eqb}
 use lib.ListN.{length, get_or, drop, length-drop}
 use lib.Seq.{length-take-le}
+use Rattle.std.specs.Prelude.{Option, Some, None, Result, Ok, Err}
+use Rattle.defs.specs.declared.Totals.{Totals}
 use Rattle.defs.specs.declared.Refusal.{Refusal}
-use Rattle.defs.specs.declared.Reading.TheVariants.{Read, Refused as NotRead}
-use Rattle.defs.specs.declared.Writing.TheVariants.{Written, Refused as NotWritten}
-use Rattle.defs.specs.declared.Laying.{Laying}
-use Rattle.defs.specs.declared.Laying.TheVariants.{Laid, Refused as NotLaid}
 use Rattle.defs.specs.Answer.{Outcome, reading, writing, laying}
 use Rattle.defs.specs.Meaning.Limits.{most_pieces, most_vertices, most_bytes}
 use Rattle.defs.specs.Meaning.Sheet.{Piece, PieceChain, VertexChain, Pieces, no_more, one_more, sheet_w, sheet_r, sheet_n, sheet_v, vertex_number, piece_number, vertex_words, list_words, list_piece}
@@ -55,18 +52,18 @@ with_piece : (b : List ℕ) (r : ℕ) (rs : List ℕ) → Question7Sheet b r →
 unfolding Question7Sheet
 with_piece b r rs q ps = rw (piece_is q.1) (one_more {vs = q.0} q.1 ps)
 
-module _ (b : List ℕ) (Rpos : 1 ≤ sheet_r b) (f : Option Refusal → Outcome) (is : (n k : ℕ) → f (some (refusal n k)) ≡ refused n k) where
+module _ (b : List ℕ) (Rpos : 1 ≤ sheet_r b) (f : Option Refusal → Outcome) (is : (n k : ℕ) → f (Some (refusal n k)) ≡ refused n k) where
   abbrev ends : ℕ → Bool
   ends r = ends_by (λ v. vertex_number b v 2) (sheet_v b) most_vertices (piece_number b r 0)
 
-  chain_asked : (k : ℕ) (rs : List ℕ) (qs : Questions) → (Pieces b rs (map (piece_of b) rs) → Answers qs (f none)) →
+  chain_asked : (k : ℕ) (rs : List ℕ) (qs : Questions) → (Pieces b rs (map (piece_of b) rs) → Answers qs (f None)) →
       Answers (chain_questions b k rs qs) (f (first_no (sheet_piece_no b) k rs))
   unfolding chain_questions first_no sheet_piece_no Question7Sheet piece_of
   chain_asked k [] qs h = h no_more
   chain_asked k (r ∷ rs) qs h =
       subst (λ (o : Option Refusal). Answers (chain_questions b k (r ∷ rs) qs) (f o))
-      (sym (as_asked (eqb (sheet_piece_no b r) 0) (some (refusal (sheet_piece_no b r) k)) (first_no (sheet_piece_no b) (k + 1) rs)))
-      (outline_asked f some is (ends r) (q9b (piece_of b r).mask) (piece_of b r).outline (piece_of b r).mask (sheet_r b) k Rpos
+      (sym (as_asked (eqb (sheet_piece_no b r) 0) (Some (refusal (sheet_piece_no b r) k)) (first_no (sheet_piece_no b) (k + 1) rs)))
+      (outline_asked f Some is (ends r) (q9b (piece_of b r).mask) (piece_of b r).outline (piece_of b r).mask (sheet_r b) k Rpos
       (Question7Sheet b r) (Question9 (piece_of b r).mask) (λ q. vertex_words b q.0)
       (question_7_sheet b r) (outline_shaped b r) (λ q. outline_is q.1) (question_9 (piece_of b r).mask)
       (first_no (sheet_piece_no b) (k + 1) rs) (chain_questions b (k + 1) rs qs)
@@ -74,14 +71,14 @@ module _ (b : List ℕ) (Rpos : 1 ≤ sheet_r b) (f : Option Refusal → Outcome
 
   -- 6, and 7 to 11 of the pieces
   pieces_asked : (qs : (rs : List ℕ) → PieceChain b rs → Questions) →
-      ((rs : List ℕ) (c : PieceChain b rs) → piece_records b ≡ rs → Pieces b rs (sheet_pieces b) → Answers (qs rs c) (f none)) →
+      ((rs : List ℕ) (c : PieceChain b rs) → piece_records b ≡ rs → Pieces b rs (sheet_pieces b) → Answers (qs rs c) (f None)) →
       Answers
       (asks 6 0 (Question6 b) λ q6.
       chain_questions b 1 (unfold Question6 in q6.0) (qs (unfold Question6 in q6.0) (unfold Question6 in q6.1)))
-      (f (ask (q6b b) (some (refusal 6 0)) λ _. first_no (sheet_piece_no b) 1 (piece_records b)))
+      (f (ask (q6b b) (Some (refusal 6 0)) λ _. first_no (sheet_piece_no b) 1 (piece_records b)))
   unfolding Question6 piece_records sheet_pieces
   pieces_asked qs h =
-      step f (q6b b) _ (some (refusal 6 0)) _ 6 0 _ (is 6 0) (question_6 b)
+      step f (q6b b) _ (Some (refusal 6 0)) _ 6 0 _ (is 6 0) (question_6 b)
       (λ q6.
       let e : piece_records b ≡ q6.0 = chain_is most_pieces q6.1.chain q6.1.most in
       subst (λ (rs : List ℕ). Answers (chain_questions b 1 q6.0 (qs q6.0 q6.1)) (f (first_no (sheet_piece_no b) 1 rs))) (sym e)
@@ -102,19 +99,19 @@ read_15 b words rs all =
 pub read_answers : (b : List ℕ) (words : ℕ) → Answers (read_questions b words) (reading (read_answer b words))
 unfolding read_answer read_questions sheet_no Question6
 read_answers b words =
-    step f (q1b b) _ (some (refusal 1 0)) _ 1 0 _ refl (question_1 b)
-    (λ _. step f (q2b b) _ (some (refusal 2 0)) _ 2 0 _ refl (question_2 b)
-    (λ _. limits_asked f some (λ n k. refl) (sheet_w b) (sheet_r b) (sheet_n b) _ _
+    step f (q1b b) _ (Some (refusal 1 0)) _ 1 0 _ refl (question_1 b)
+    (λ _. step f (q2b b) _ (Some (refusal 2 0)) _ 2 0 _ refl (question_2 b)
+    (λ _. limits_asked f Some (λ n k. refl) (sheet_w b) (sheet_r b) (sheet_n b) _ _
     (λ _ q16 _. pieces_asked b q16.at_least f (λ n k. refl) _
     (λ rs c e all.
-    step reading (leb (length (list_words (sheet_pieces b))) words) _ (NotRead (refusal 15 0)) (Read (figures_of b)) 15 0 _ refl
+    step reading (leb (length (list_words (sheet_pieces b))) words) _ (Err (refusal 15 0)) (Ok (figures_of b)) 15 0 _ refl
     (read_15 b words rs all)
-    (λ _. is_granted _ (reading (Read (figures_of b))) refl refl refl)))))
+    (λ _. is_granted _ (reading (Ok (figures_of b))) refl refl refl)))))
   where
     f : Option Refusal → Outcome
     f o =
         reading
-        (said NotRead (ask (leb (length (list_words (sheet_pieces b))) words) (NotRead (refusal 15 0)) λ _. Read (figures_of b)) o)
+        (said Err (ask (leb (length (list_words (sheet_pieces b))) words) (Err (refusal 15 0)) λ _. Ok (figures_of b)) o)
 
 -- lay
 
@@ -126,26 +123,26 @@ pub lay_answers : (b : List ℕ) (g strip out work : ℕ) →
     Answers (lay_questions_to TwoValues b g strip out) (laying (lay_answer b g strip out work))
 unfolding lay_answer lay_questions_to sheet_no Question4 Question6
 lay_answers b g strip out work =
-    step f (q1b b) _ (some (refusal 1 0)) _ 1 0 _ refl (question_1 b)
-    (λ _. step f (q2b b) _ (some (refusal 2 0)) _ 2 0 _ refl (question_2 b)
-    (λ _. limits_asked f some (λ n k. refl) (sheet_w b) (sheet_r b) (sheet_n b) _ _
-    (λ _ q16 _. step f (gapb g) _ (some (refusal 21 0)) _ 21 0 _ refl (question_21 g)
-    (λ _. step f (lengthb (sheet_n b) strip) _ (some (refusal 4 0)) _ 4 0 _ refl (question_4 (sheet_n b) strip)
+    step f (q1b b) _ (Some (refusal 1 0)) _ 1 0 _ refl (question_1 b)
+    (λ _. step f (q2b b) _ (Some (refusal 2 0)) _ 2 0 _ refl (question_2 b)
+    (λ _. limits_asked f Some (λ n k. refl) (sheet_w b) (sheet_r b) (sheet_n b) _ _
+    (λ _ q16 _. step f (gapb g) _ (Some (refusal 21 0)) _ 21 0 _ refl (question_21 g)
+    (λ _. step f (lengthb (sheet_n b) strip) _ (Some (refusal 4 0)) _ 4 0 _ refl (question_4 (sheet_n b) strip)
     (λ _. pieces_asked b q16.at_least f (λ n k. refl) _
     (λ rs c e all.
-    step laying (leb (4 * length (piece_records b)) out) _ (NotLaid (refusal 15 0)) totals 15 0 _ refl (lay_15 rs e)
+    step laying (leb (4 * length (piece_records b)) out) _ (Err (refusal 15 0)) totals 15 0 _ refl (lay_15 rs e)
     (λ _. is_granted _ (laying totals) refl refl (_, _, refl))))))))
   where
-    totals : Laying
+    totals : Result Totals Refusal
     totals =
-        Laid
+        Ok
         (record {
           placed = placed_in (lay_entries b g strip work);
           used = used_in (sheet_r b) (sheet_pieces b) (lay_entries b g strip work);
         })
 
     f : Option Refusal → Outcome
-    f o = laying (said NotLaid (ask (leb (4 * length (piece_records b)) out) (NotLaid (refusal 15 0)) λ _. totals) o)
+    f o = laying (said Err (ask (leb (4 * length (piece_records b)) out) (Err (refusal 15 0)) λ _. totals) o)
 
     lay_15 : (rs : List ℕ) → piece_records b ≡ rs → Decides (leb (4 * length (piece_records b)) out) (Question15 (4 * length rs) out)
     lay_15 rs e =
@@ -169,22 +166,22 @@ list_7 ws =
     decides_by (λ h. h.0) (λ q. (q, list_shaped ws q))
     (and_decides (question_7_list ws) (question_7 (list_piece ws).outline))
 
-module _ (R : ℕ) (Rpos : 1 ≤ R) (f : Option Refusal → Outcome) (is : (n k : ℕ) → f (some (refusal n k)) ≡ refused n k) where
+module _ (R : ℕ) (Rpos : 1 ≤ R) (f : Option Refusal → Outcome) (is : (n k : ℕ) → f (Some (refusal n k)) ≡ refused n k) where
   list_asked : (k n : ℕ) (ws : List ℕ) (v : ℕ) (qs : ℕ → Questions) →
-      Answers (qs (v + vertices_in (map list_piece (list_tails n ws)))) (f none) →
+      Answers (qs (v + vertices_in (map list_piece (list_tails n ws)))) (f None) →
       Answers (list_questions R k n ws v qs) (f (first_no (list_piece_no R) k (list_tails n ws)))
   unfolding list_questions first_no list_piece_no list_tails vertices_in
-  list_asked k zero ws v qs h = let e : v + 0 ≡ v = omega arith in subst (λ (m : ℕ). Answers (qs m) (f none)) e h
+  list_asked k zero ws v qs h = let e : v + 0 ≡ v = omega arith in subst (λ (m : ℕ). Answers (qs m) (f None)) e h
   list_asked k (suc n) ws v qs h =
       subst (λ (o : Option Refusal). Answers (list_questions R k (suc n) ws v qs) (f o))
       (sym
-      (as_asked (eqb (list_piece_no R ws) 0) (some (refusal (list_piece_no R ws) k)) (first_no (list_piece_no R) (k + 1) (list_tails n tail))))
-      (outline_asked f some is (q7_listb ws) (q9b (list_piece ws).mask) (list_piece ws).outline (list_piece ws).mask R k Rpos
+      (as_asked (eqb (list_piece_no R ws) 0) (Some (refusal (list_piece_no R ws) k)) (first_no (list_piece_no R) (k + 1) (list_tails n tail))))
+      (outline_asked f Some is (q7_listb ws) (q9b (list_piece ws).mask) (list_piece ws).outline (list_piece ws).mask R k Rpos
       (Question7List ws) (Question9 (list_piece ws).mask) (λ _. (list_piece ws).outline)
       (list_7 ws) (list_shaped ws) (λ _. refl) (question_9 (list_piece ws).mask)
       (first_no (list_piece_no R) (k + 1) (list_tails n tail)) (list_questions R (k + 1) n tail (v + get_or ws 0 0) qs)
       (λ q7 _ _.
-      list_asked (k + 1) n tail (v + get_or ws 0 0) qs (subst (λ (m : ℕ). Answers (qs m) (f none)) (sum q7) h)))
+      list_asked (k + 1) n tail (v + get_or ws 0 0) qs (subst (λ (m : ℕ). Answers (qs m) (f None)) (sum q7) h)))
     where
       tail : List ℕ
       tail = drop (2 + 2 * get_or ws 0 0) ws
@@ -210,13 +207,13 @@ pub write_answers : (W R N : ℕ) (ws : List ℕ) (bytes : ℕ) →
     Answers (write_questions W R N ws bytes) (writing (write_answer W R N ws bytes))
 unfolding write_answer list_no
 write_answers W R N ws bytes =
-    limits_asked f some (λ n k. refl) W R N _ _
-    (λ _ q16 _. step f (q6_listb ws) _ (some (refusal 6 0)) _ 6 0 _ refl (question_6_list ws)
+    limits_asked f Some (λ n k. refl) W R N _ _
+    (λ _ q16 _. step f (q6_listb ws) _ (Some (refusal 6 0)) _ 6 0 _ refl (question_6_list ws)
     (λ _. list_asked R q16.at_least f (λ n k. refl) 1 (get_or ws 0 0) (drop 1 ws) 0 _
-    (subst (λ (n : ℕ). Answers (size_asked n) (f none)) size_is
-    (step writing (leb size most_bytes) _ (NotWritten (refusal 2 0)) _ 2 0 _ refl (question_2_size size)
-    (λ _. step writing (leb size bytes) _ (NotWritten (refusal 15 0)) (Written size) 15 0 _ refl (question_15 size bytes)
-    (λ _. is_granted _ (writing (Written size)) refl refl refl))))))
+    (subst (λ (n : ℕ). Answers (size_asked n) (f None)) size_is
+    (step writing (leb size most_bytes) _ (Err (refusal 2 0)) _ 2 0 _ refl (question_2_size size)
+    (λ _. step writing (leb size bytes) _ (Err (refusal 15 0)) (Ok size) 15 0 _ refl (question_15 size bytes)
+    (λ _. is_granted _ (writing (Ok size)) refl refl refl))))))
   where
     size : ℕ
     size = size_of (list_pieces ws)
@@ -224,10 +221,10 @@ write_answers W R N ws bytes =
     f : Option Refusal → Outcome
     f o =
         writing
-        (said NotWritten
-        (ask (leb size most_bytes) (NotWritten (refusal 2 0)) λ _.
-        ask (leb size bytes) (NotWritten (refusal 15 0)) λ _.
-        Written size)
+        (said Err
+        (ask (leb size most_bytes) (Err (refusal 2 0)) λ _.
+        ask (leb size bytes) (Err (refusal 15 0)) λ _.
+        Ok size)
         o)
 
     size_asked : ℕ → Questions

@@ -2,15 +2,13 @@
 -- the same.
 -- Assumes nothing.
 use mathlib.Core.Path.{◌≡◌, refl, sym, ap, ◌∙◌}
-use mathlib.Core.Option.{none}
 use mathlib.Core.List.{List}
 use Prim.Native.Nat.{ℕ}
 use native.Mathlib.Omega.{arith}
 use lib.ListN.{length, take, drop}
 use lib.Seq.{take_at}
+use Rattle.std.specs.Prelude.{None, Ok}
 use Rattle.defs.specs.declared.Figures.{Figures}
-use Rattle.defs.specs.declared.Reading.TheVariants.{Read}
-use Rattle.defs.specs.declared.Writing.TheVariants.{Written}
 use Rattle.defs.specs.Meaning.Strip.{Limits}
 use Rattle.defs.specs.Meaning.Sheet.{Piece, ListHolds, list_words}
 use Rattle.defs.specs.Computing.Sheets.{size_of, sheet_pieces, list_pieces, list_no, ReadStep}
@@ -36,7 +34,7 @@ demand2_sheets W R N n ws out out' w =
     }
 
 -- a granted read, and words that begin with its list
-module _ {sheet out out' : List ℕ} {f : Figures} (r : ReadStep sheet out (Read f) out') where
+module _ {sheet out out' : List ℕ} {f : Figures} (r : ReadStep sheet out (Ok f) out') where
   given : ReadGranted sheet (length out) f
   given = read_granted sheet (length out) f r.answer
 
@@ -50,7 +48,7 @@ module _ {sheet out out' : List ℕ} {f : Figures} (r : ReadStep sheet out (Read
   passes = rw given.figures given.held.passes
 
   module _ {ws : List ℕ} (l : ListHolds ws ps) where
-    none_no : list_no f.width f.resolution f.columns ws ≡ none
+    none_no : list_no f.width f.resolution f.columns ws ≡ None
     none_no = rw l.words (words_accepted l.rest limits (few_read sheet) passes)
 
     same_pieces : list_pieces ws ≡ ps
@@ -77,7 +75,7 @@ module _ {sheet out out' : List ℕ} {f : Figures} (r : ReadStep sheet out (Read
             let size = ap size_of (same_pieces l) in
             w.answer ∙
             write_grants f.width f.resolution f.columns ws (length o) (none_no l) (omega (arith, size)) (omega (arith, size)) ∙
-            ap Written size;
+            ap Ok size;
         again =
             λ ws o o' n l w a q q' s room.
             let long = ap length (same_list l) in

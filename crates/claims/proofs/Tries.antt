@@ -4,15 +4,13 @@
 use mathlib.Core.Path.{◌≡◌, refl, sym, subst, ◌∙◌}
 use mathlib.Core.Bool.{Bool, true, false}
 use mathlib.Core.List.{List}
-use mathlib.Core.Option.{Option, none, some}
 use Prim.Native.Nat.{ℕ, ◌≤◌, ◌<◌}
 use native.Mathlib.Omega.{arith}
 use lib.Dec.{eqb}
 use lib.ListN.{length}
+use Rattle.std.specs.Prelude.{Option, Some, None, Result, Ok, Err}
 use Rattle.defs.specs.declared.Position.{Position}
 use Rattle.defs.specs.declared.Refusal.{Refusal}
-use Rattle.defs.specs.declared.Placing.{Placing}
-use Rattle.defs.specs.declared.Placing.TheVariants.{Placed, Refused}
 use Rattle.defs.specs.Meaning.Strip.{width_of, resolution_of, columns_of, gap_of}
 use Rattle.defs.specs.Computing.Test.{ask}
 use Rattle.defs.specs.Computing.Cells.{Rows}
@@ -22,7 +20,6 @@ use Rattle.defs.specs.Computing.Calls.{refusal, q9b, q12b, q14b, outline_no, cho
 use Rattle.looks.proofs.Bound.{tries_bound_lem}
 use Rattle.looks.proofs.Finds.{walk_finds, few_in_column, steps_enough}
 use Rattle.claims.specs.Tries.{bound_on, Tries}
-use Rattle.claims.proofs.AskCommit.{shown_refused}
 
 -- 0 where a question gets "no"
 asked_most : (a : Bool) {m n : ℕ} → m ≤ n → ◌≤◌ (ask a 0 λ _. m) n
@@ -38,24 +35,24 @@ bounded s o mask words =
     (tries_bound_lem (width_of s) (resolution_of s) (columns_of s) (gap_of s) (columns_runs s) o mask)))
 
 -- An answer with its tries: where a check before 13 refuses there are none.
-abbrev NoneBefore13 : Placing → ℕ → Type 0
-NoneBefore13 (Placed p) n = Unit {0}
-NoneBefore13 (Refused r) n = r.number < 13 → n ≡ 0
+abbrev NoneBefore13 : Result Position Refusal → ℕ → Type 0
+NoneBefore13 (Ok p) n = Unit {0}
+NoneBefore13 (Err r) n = r.number < 13 → n ≡ 0
 
 -- 13, 14 and a placing come with any tries
 choose_late : (W R g Q : ℕ) (held : List (List Rows)) (o : List ℕ) (x : Option Position) (n : ℕ) →
     NoneBefore13 (choose W R g Q held o x) n
 unfolding choose
-choose_late W R g Q held o none n = λ few. absurd (omega arith)
-choose_late W R g Q held o (some p) n = go (q14b W R g Q held o p)
+choose_late W R g Q held o None n = λ few. absurd (omega arith)
+choose_late W R g Q held o (Some p) n = go (q14b W R g Q held o p)
   where
-    go : (b : Bool) → NoneBefore13 (ask b (Refused (refusal 14 1)) λ _. Placed p) n
+    go : (b : Bool) → NoneBefore13 (ask b (Err (refusal 14 1)) λ _. Ok p) n
     go true = tt
     go false = λ few. absurd (omega arith)
 
 -- a refusal comes with none, or what follows is asked
-asked_none : (a : Bool) (r : Refusal) (b : Placing) (n : ℕ) → NoneBefore13 b n →
-    NoneBefore13 (ask a (Refused r) λ _. b) (ask a 0 λ _. n)
+asked_none : (a : Bool) (r : Refusal) (b : Result Position Refusal) (n : ℕ) → NoneBefore13 b n →
+    NoneBefore13 (ask a (Err r) λ _. b) (ask a 0 λ _. n)
 asked_none true r b n h = h
 asked_none false r b n h = λ few. refl
 
@@ -68,9 +65,9 @@ none_before_13 s o mask words =
     (choose_late (width_of s) (resolution_of s) (gap_of s) (records_of (columns_of s) (length s)) (columns_runs s) o
     (best_below (width_of s) (resolution_of s) (columns_of s) (gap_of s) (columns_runs s) o mask 4) _)))
 
-none_at : (s o : List ℕ) (mask words : ℕ) (r : Refusal) → place_answer s o mask words ≡ Refused r → r.number < 13 →
+none_at : (s o : List ℕ) (mask words : ℕ) (r : Refusal) → place_answer s o mask words ≡ Err r → r.number < 13 →
     place_tries s o mask words ≡ 0
-none_at s o mask words r e = subst (λ (a : Placing). NoneBefore13 a (place_tries s o mask words)) e (none_before_13 s o mask words)
+none_at s o mask words r e = subst (λ (a : Result Position Refusal). NoneBefore13 a (place_tries s o mask words)) e (none_before_13 s o mask words)
 
 pub tries : Tries
 unfolding ask_answer
@@ -80,7 +77,7 @@ tries =
       ask_bounded = λ {s} {o} {mask} {work} x. rw x.counted (bounded s o mask (length work));
       place_none = λ {s} {o} {mask} {work} {r} x few. x.counted ∙ none_at s o mask (length work) r (sym x.answer) few;
       ask_none =
-          λ {s} {o} {mask} {work} {r} x few. x.counted ∙ none_at s o mask (length work) r (shown_refused _ r x.answer) few;
+          λ {s} {o} {mask} {work} {r} x few. x.counted ∙ none_at s o mask (length work) r (sym x.answer) few;
       walk_finds = walk_finds;
       few_in_column = few_in_column;
       steps_enough = steps_enough;

@@ -9,12 +9,9 @@ use Prim.Native.Nat.{ℕ, zero, suc, ◌^◌, ◌≤◌, ◌<◌}
 use native.Mathlib.Omega.{arith}
 use native.Mathlib.Decide.{dec_lt}
 use lib.ListN.{length, get_or}
+use Rattle.std.specs.Prelude.{Result, Ok, Err}
+use Rattle.defs.specs.declared.Refusal.{Refusal}
 use Rattle.defs.specs.declared.Position.{Position}
-use Rattle.defs.specs.declared.Placing.{Placing}
-use Rattle.defs.specs.declared.Placing.TheVariants.{Placed, Refused}
-use Rattle.defs.specs.declared.Asking.TheVariants.{Found}
-use Rattle.defs.specs.declared.Committing.{Committing}
-use Rattle.defs.specs.declared.Committing.TheVariants.{Committed, Refused as NotCommitted}
 use Rattle.defs.specs.Answer.{number_of, number_of_ask, number_of_commit}
 use Rattle.defs.specs.Meaning.Limits.{most_turn}
 use Rattle.defs.specs.Meaning.Cell.{Cells}
@@ -23,7 +20,7 @@ use Rattle.defs.specs.Meaning.Placing.{moved, cells_at, Free, Best}
 use Rattle.defs.specs.Meaning.Question.{Question18}
 use Rattle.defs.specs.Computing.Cells.{Rows, in_rows}
 use Rattle.defs.specs.Computing.Words.{records_of, columns_runs}
-use Rattle.defs.specs.Computing.Calls.{refusal, place_answer, shown, ask_answer, OpenLeaves, Left}
+use Rattle.defs.specs.Computing.Calls.{refusal, place_answer, ask_answer, OpenLeaves, Left}
 use Rattle.geom.proofs.Stretches.{no_rows}
 use Rattle.tables.proofs.Tables.{In}
 use Rattle.tables.proofs.Sets.{Same}
@@ -34,14 +31,14 @@ use Rattle.claims.proofs.Invariant.{Kept, kept}
 use Rattle.claims.proofs.KeptStrip.{resolution_least, strip_formed, holds_held}
 use Rattle.claims.proofs.PlaceAnswers.{place_not_5, place_best, place_13, place_granted}
 use Rattle.claims.proofs.CommitAnswers.{commit_turn, commit_not_5, commit_not_13, commit_fits, commit_is_18, commit_granted}
-use Rattle.claims.proofs.AskCommit.{shown_found, commit_found}
+use Rattle.claims.proofs.AskCommit.{commit_found}
 use Rattle.claims.proofs.Effects.{Entry, Effect, stays, enters, effect, entry_cells}
 use Rattle.claims.proofs.Distance.{Separate, pieces_separate}
 
 -- an ask's number is that of the place call
-shown_number : (a : Placing) → number_of_ask (shown a) ≡ number_of a
-shown_number (Placed p) = refl
-shown_number (Refused r) = refl
+shown_number : (a : Result Position Refusal) → number_of_ask a ≡ number_of a
+shown_number (Ok p) = refl
+shown_number (Err r) = refl
 
 module _ {W R N g : ℕ} {x : Calls} (t : Trace W R N g x) where
   abbrev Q : ℕ
@@ -141,7 +138,7 @@ module _ {W R N g : ℕ} {x : Calls} (t : Trace W R N g x) where
           grown_agree m o p u only (entry_cells (kept t m (omega arith)) (x.strip (suc m)) o p entry) a
 
   -- each piece put is on the strip, and free of those there
-  place_puts : (m : ℕ) (c : PlaceCall) (o : List ℕ) (p : Position) → Place x m c → (c.outline ≡ o) × (c.answer ≡ Placed p) →
+  place_puts : (m : ℕ) (c : PlaceCall) (o : List ℕ) (p : Position) → Place x m c → (c.outline ≡ o) × (c.answer ≡ Ok p) →
       Question18 W R N g (Occ m) o p
   unfolding Step
   place_puts m c o p h u =
@@ -151,7 +148,7 @@ module _ {W R N g : ℕ} {x : Calls} (t : Trace W R N g x) where
       subst (λ (v : List ℕ). Question18 W R N g (Occ m) v p) u.0 (record { on_strip = b.fits.on_strip; free = b.fits.free })
 
   commit_puts : (m : ℕ) (c : CommitCall) (o : List ℕ) (p : Position) → Commit x m c →
-      (c.outline ≡ o) × (c.at ≡ p) × (c.answer ≡ Committed) → Question18 W R N g (Occ m) o p
+      (c.outline ≡ o) × (c.at ≡ p) × (c.answer ≡ Ok tt) → Question18 W R N g (Occ m) o p
   unfolding Step
   commit_puts m c o p h u =
       subst₂ (Question18 W R N g (Occ m)) u.0 u.1
@@ -226,7 +223,7 @@ module _ {W R N g : ℕ} {x : Calls} (t : Trace W R N g x) where
       go (no q) rest = one (omega arith) (effect_of m h) ∙ rest (omega arith)
 
   module _ (l m : ℕ) (a : AskCall) (c : CommitCall) (before : l < m) (hl : Ask x l a) (hm : Commit x m c)
-      (same : a.outline ≡ c.outline) (answered : a.answer ≡ Found c.at) (none : NoChange x l m) where
+      (same : a.outline ≡ c.outline) (answered : a.answer ≡ Ok c.at) (none : NoChange x l m) where
     strip_same : x.strip m ≡ x.strip l
     unfolding Changes
     strip_same =
@@ -239,12 +236,12 @@ module _ {W R N g : ℕ} {x : Calls} (t : Trace W R N g x) where
             subst (λ (n : ℕ). ¬ Changes (x.call n)) e (subst (λ (d : Call). ¬ Changes d) (sym hl.1) (λ z. z))
 
     -- a place call in the commit's place would give the ask's position
-    placed_there : place_answer (x.strip m) c.outline a.mask (length a.work) ≡ Placed c.at
+    placed_there : place_answer (x.strip m) c.outline a.mask (length a.work) ≡ Ok c.at
     unfolding Step ask_answer
     placed_there =
         ap (λ (s : List ℕ). place_answer s c.outline a.mask (length a.work)) strip_same ∙
         ap (λ (o : List ℕ). place_answer (x.strip l) o a.mask (length a.work)) (sym same) ∙
-        shown_found _ c.at (sym answered ∙ (step_of l (ask_call a) hl.0 hl.1).answer)
+        sym (step_of l (ask_call a) hl.0 hl.1).answer ∙ answered
 
     commit_best : Best W R N g (Occ m) c.outline a.mask c.at
     commit_best =
@@ -252,7 +249,7 @@ module _ {W R N g : ℕ} {x : Calls} (t : Trace W R N g x) where
         placed_there
 
     commit_as_asked :
-        (c.answer ≡ Committed) ⊎ ((c.answer ≡ NotCommitted (refusal 12 1)) × (length c.work < length a.work))
+        (c.answer ≡ Ok tt) ⊎ ((c.answer ≡ Err (refusal 12 1)) × (length c.work < length a.work))
     unfolding Step
     commit_as_asked =
         rw (step_of m (commit_call c) hm.0 hm.1).answer
@@ -297,12 +294,12 @@ module _ {W R N g : ℕ} {x : Calls} (t : Trace W R N g x) where
         best_ask =
             λ m c p h e.
             place_best (kept t m (omega (arith, h.0))) c.outline c.mask _ (Occ m) (held_is m (omega (arith, h.0))) p
-            (shown_found _ p (sym e ∙ (step_of m (ask_call c) h.0 h.1).answer));
+            (sym (step_of m (ask_call c) h.0 h.1).answer ∙ e);
         best_commit = λ l m a c b hl hm same answered none e. commit_best l m a c b hl hm same answered none;
         no_position =
             λ m c h.
             subst
-            (λ (a : Placing).
+            (λ (a : Result Position Refusal).
             (number_of a ≡ 13) ↔ (Asked x R g m c.outline c.mask c.work × ¬ SomeFree x W R N g m c.outline c.mask))
             (sym (step_of m (place_call c) h.0 h.1).answer)
             (place_13 (kept t m (omega (arith, h.0))) c.outline c.mask _ (Occ m) (held_is m (omega (arith, h.0))));
@@ -318,7 +315,7 @@ module _ {W R N g : ℕ} {x : Calls} (t : Trace W R N g x) where
         commit_18 =
             λ m c h.
             subst
-            (λ (a : Committing).
+            (λ (a : Result Unit Refusal).
             (number_of_commit a ≡ 18) ↔
             (Asked x R g m c.outline (2 ^ c.at.turn) c.work × ¬ Question18 W R N g (Occ m) c.outline c.at))
             (sym (step_of m (commit_call c) h.0 h.1).answer)
@@ -337,13 +334,13 @@ module _ {W R N g : ℕ} {x : Calls} (t : Trace W R N g x) where
             λ m c h a f room.
             let granted =
             place_granted (kept t m (omega (arith, h.0))) c.outline c.mask _ (Occ m) (held_is m (omega (arith, h.0))) a f room in
-            (granted.0, (step_of m (ask_call c) h.0 h.1).answer ∙ ap shown granted.1);
+            (granted.0, (step_of m (ask_call c) h.0 h.1).answer ∙ granted.1);
         commits_it =
             λ m c h a f room.
             (step_of m (commit_call c) h.0 h.1).answer ∙
             commit_granted (kept t m (omega (arith, h.0))) c.outline c.at _ (Occ m) (held_is m (omega (arith, h.0))) a f room;
         as_asked = commit_as_asked;
-        ask_as_place = λ m c b n s' work' h t. (step_of m (ask_call c) h.0 h.1).answer ∙ ap shown (sym t.answer);
+        ask_as_place = λ m c b n s' work' h t. (step_of m (ask_call c) h.0 h.1).answer ∙ sym t.answer;
         ask_keeps = λ m c h. (step_of m (ask_call c) h.0 h.1).strip;
         strip_is =
             λ m h.

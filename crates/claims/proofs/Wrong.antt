@@ -7,11 +7,9 @@ use mathlib.Core.List.{List, []}
 use Prim.Native.Nat.{ℕ, zero, suc, ◌+◌, ◌*◌, ◌<◌}
 use native.Mathlib.Omega.{arith}
 use lib.ListN.{length, get_or, replicate}
+use Rattle.std.specs.Prelude.{Result, Ok, Err}
+use Rattle.defs.specs.declared.Refusal.{Refusal}
 use Rattle.defs.specs.declared.Position.{Position}
-use Rattle.defs.specs.declared.Placing.TheVariants.{Placed, Refused}
-use Rattle.defs.specs.declared.Asking.{Asking}
-use Rattle.defs.specs.declared.Asking.TheVariants.{Found, Refused as NotFound}
-use Rattle.defs.specs.declared.Committing.TheVariants.{Committed, Refused as NotCommitted}
 use Rattle.defs.specs.Meaning.Outline.{Inside, passes_through, edge_at}
 use Rattle.defs.specs.Meaning.Cell.{Cells}
 use Rattle.defs.specs.Meaning.Placing.{moved, cells_at, OnStrip, Free, Fits, Best, Later}
@@ -19,6 +17,7 @@ use Rattle.defs.specs.Meaning.Question.{Asked7to12, Question5, Question13, Quest
 use Rattle.defs.specs.Computing.Calls.{refusal}
 use Rattle.defs.specs.Computing.Cells.{Rows, in_rows}
 use Rattle.defs.specs.Computing.Runs.{runs}
+use Rattle.laws.proofs.Granted.{no_grant}
 use Rattle.geom.proofs.Checks.{checks}
 use Rattle.geom.proofs.Stretches.{Valid, no_rows}
 use Rattle.tables.proofs.Tables.{In, Table}
@@ -151,11 +150,11 @@ unfolding Later runs
 not_before h = ⊎_elim (λ a. omega arith) (⊎_elim (λ a. omega (arith, a.0)) (λ a. omega (arith, a.0))) h
 
 module _ (lent : List ℕ) (tries : ℕ → ℕ) (strip : ℕ → List ℕ) where
-  searched : ¬ PlaceDemand3 10 2 10 0 (calls lent 1 (λ _. Refused (refusal 13 1)) tries strip)
+  searched : ¬ PlaceDemand3 10 2 10 0 (calls lent 1 (λ _. Err (refusal 13 1)) tries strip)
   unfolding Question13
-  searched d = ((d.no_position 0 (omega arith)).0 refl).1 (at_height 0, fits_0 (calls lent 1 (λ _. Refused (refusal 13 1)) tries strip))
+  searched d = ((d.no_position 0 (omega arith)).0 refl).1 (at_height 0, fits_0 (calls lent 1 (λ _. Err (refusal 13 1)) tries strip))
 
-  entered : strip 1 ≡ strip 0 → ¬ PlaceDemand3 10 2 10 0 (calls lent 1 (λ _. Placed (at_height 0)) tries strip)
+  entered : strip 1 ≡ strip 0 → ¬ PlaceDemand3 10 2 10 0 (calls lent 1 (λ _. Ok (at_height 0)) tries strip)
   entered e d =
       let held =
       ((d.strip_is 1 (omega arith)).holds 0 3).1
@@ -171,7 +170,7 @@ module _ (lent : List ℕ) (tries : ℕ → ℕ) (strip : ℕ → List ℕ) wher
       (record { earlier = 1; is_earlier = omega arith; position = at_height 4; places = refl; covered = cell_4 }) in
       d.free 1 (at_height 4) (omega arith) refl 0 4 cell_4 (((d.strip_is 1 (omega arith)).holds 0 4).0 (rw (← e) held))
 
-  not_always_0 : ¬ PlaceDemand3 10 2 10 0 (calls lent 2 (λ _. Placed (at_height 0)) tries strip)
+  not_always_0 : ¬ PlaceDemand3 10 2 10 0 (calls lent 2 (λ _. Ok (at_height 0)) tries strip)
   not_always_0 d = d.no_point_in_two 0 1 (at_height 0) (at_height 0) 2 15 4 (omega arith) (omega arith) refl refl inside_0 inside_0
 
   nearer : ¬ PlaceDemand3 10 2 10 1 (calls lent 2 stacked tries strip)
@@ -179,10 +178,10 @@ module _ (lent : List ℕ) (tries : ℕ → ℕ) (strip : ℕ → List ℕ) wher
       ⊎_elim (⊎_elim (λ a. omega arith) (λ a. omega arith)) (⊎_elim (λ a. omega arith) (λ a. omega arith))
       (d.points_apart 0 1 (at_height 0) (at_height 4) 2 15 4 2 17 4 (omega arith) (omega arith) refl refl inside_0 inside_4)
 
-  best_only : ¬ PlaceDemand3 10 2 10 0 (calls lent 1 (λ _. Placed (at_height 1)) tries strip)
+  best_only : ¬ PlaceDemand3 10 2 10 0 (calls lent 1 (λ _. Ok (at_height 1)) tries strip)
   best_only d =
       not_later
-      ((d.best 0 (at_height 1) (omega arith) refl).first (at_height 0) (fits_0 (calls lent 1 (λ _. Placed (at_height 1)) tries strip))
+      ((d.best 0 (at_height 1) (omega arith) refl).first (at_height 0) (fits_0 (calls lent 1 (λ _. Ok (at_height 1)) tries strip))
       (λ e. omega (arith, ap (λ (p : Position). p.height) e)))
 
   lesser_edge : ¬ PlaceDemand3 10 4 10 0 (record { lent = lent; count = 1; call = λ m. box_turned (tries m); strip = strip })
@@ -197,15 +196,12 @@ module _ (lent : List ℕ) (tries : ℕ → ℕ) (strip : ℕ → List ℕ) wher
       })
       (λ e. omega (arith, ap (λ (p : Position). p.turn) e)))
 
-  refused_placed : {p : Position} (n k : ℕ) → ¬ (Refused (refusal n k) ≡ Placed p)
-  refused_placed n k e = let z : ◌≡◌ {A = ℕ} 0 1 = cc in omega arith
-
-  not_refused : (n k : ℕ) → length lent ≡ 39 → ¬ PlaceDemand3 10 2 10 0 (calls lent 1 (λ _. Refused (refusal n k)) tries strip)
+  not_refused : (n k : ℕ) → length lent ≡ 39 → ¬ PlaceDemand3 10 2 10 0 (calls lent 1 (λ _. Err (refusal n k)) tries strip)
   unfolding Question5 Question13
   not_refused n k long d =
-      let x = calls lent 1 (λ _. Refused (refusal n k)) tries strip in
+      let x = calls lent 1 (λ _. Err (refusal n k)) tries strip in
       let e : d.Q ≡ 6 = omega (arith, long, d.opened_with.words_are) in
-      refused_placed n k
+      no_grant {r = refusal n k}
       (d.places_it 0 (omega arith)
       (record { q5 = (d.Q, (d.strip_is 0 (omega arith)).well_formed); q7to12 = asked })
       (at_height 0, fits_0 x)
@@ -230,79 +226,73 @@ six : (x : Calls) → length x.lent ≡ 39 → (d : Demand3 10 2 10 0 x) → d.Q
 six x long d = omega (arith, long, d.opened_with.words_are)
 
 module _ (lent : List ℕ) (tries : ℕ) (strip : ℕ → List ℕ) where
-  asked_searched : ¬ Demand3 10 2 10 0 (repeated lent 1 (ask_call (ask_for (NotFound (refusal 13 1)) tries)) strip)
+  asked_searched : ¬ Demand3 10 2 10 0 (repeated lent 1 (ask_call (ask_for (Err (refusal 13 1)) tries)) strip)
   unfolding Question13
   asked_searched d =
-      ((d.ask_no_position 0 (ask_for (NotFound (refusal 13 1)) tries) (omega arith, refl)).0 refl).1
-      (at_height 0, fits_first (λ _. ask_call (ask_for (NotFound (refusal 13 1)) tries)))
+      ((d.ask_no_position 0 (ask_for (Err (refusal 13 1)) tries) (omega arith, refl)).0 refl).1
+      (at_height 0, fits_first (λ _. ask_call (ask_for (Err (refusal 13 1)) tries)))
 
-  asked_best : ¬ Demand3 10 2 10 0 (repeated lent 1 (ask_call (ask_for (Found (at_height 1)) tries)) strip)
+  asked_best : ¬ Demand3 10 2 10 0 (repeated lent 1 (ask_call (ask_for (Ok (at_height 1)) tries)) strip)
   asked_best d =
       not_later
-      ((d.best_ask 0 (ask_for (Found (at_height 1)) tries) (at_height 1) (omega arith, refl) refl).first (at_height 0)
-      (fits_first (λ _. ask_call (ask_for (Found (at_height 1)) tries)))
+      ((d.best_ask 0 (ask_for (Ok (at_height 1)) tries) (at_height 1) (omega arith, refl) refl).first (at_height 0)
+      (fits_first (λ _. ask_call (ask_for (Ok (at_height 1)) tries)))
       (λ e. omega (arith, ap (λ (p : Position). p.height) e)))
 
-  asked_kept : (a : Asking) → strip 1 ≢ strip 0 → ¬ Demand3 10 2 10 0 (repeated lent 1 (ask_call (ask_for a tries)) strip)
+  asked_kept : (a : Result Position Refusal) → strip 1 ≢ strip 0 → ¬ Demand3 10 2 10 0 (repeated lent 1 (ask_call (ask_for a tries)) strip)
   asked_kept a n d = n (d.ask_keeps 0 (ask_for a tries) (omega arith, refl))
 
   asked_refused : (n k : ℕ) → length lent ≡ 39 →
-      ¬ Demand3 10 2 10 0 (repeated lent 1 (ask_call (ask_for (NotFound (refusal n k)) tries)) strip)
+      ¬ Demand3 10 2 10 0 (repeated lent 1 (ask_call (ask_for (Err (refusal n k)) tries)) strip)
   unfolding Question5 Question13
   asked_refused n k long d =
-      let c = ask_for (NotFound (refusal n k)) tries in
+      let c = ask_for (Err (refusal n k)) tries in
       let call : ℕ → Call = λ _. ask_call c in
-      not_found
+      no_grant {r = refusal n k}
       (d.finds_it 0 c (omega arith, refl) (record { q5 = (d.Q, (d.strip_is 0 (omega arith)).well_formed); q7to12 = asked })
       (at_height 0, fits_first call)
       (λ p b.
       subst (λ (q : ℕ). Question14 10 2 10 0 q (Occupied 10 2 10 0 call 0) square p) (sym (six _ long d))
       (room (Occupied 10 2 10 0 call 0) (none_before call) p b))).1
-    where
-      not_found : {p : Position} → ¬ (NotFound (refusal n k) ≡ Found p)
-      not_found e = let z : ◌≡◌ {A = ℕ} 0 1 = cc in omega arith
 
 module _ (lent : List ℕ) (strip : ℕ → List ℕ) where
   -- each of these commits has put the square there
-  lies : (m l : ℕ) → l < m → Lies (λ _. commit_call (commit_at 0 Committed)) m l square (at_height 0)
+  lies : (m l : ℕ) → l < m → Lies (λ _. commit_call (commit_at 0 (Ok tt))) m l square (at_height 0)
   unfolding Puts
   lies m l h = record { earlier = h; puts = (refl, refl, refl) }
 
-  commit_entered : strip 1 ≡ strip 0 → ¬ Demand3 10 2 10 0 (repeated lent 1 (commit_call (commit_at 0 Committed)) strip)
+  commit_entered : strip 1 ≡ strip 0 → ¬ Demand3 10 2 10 0 (repeated lent 1 (commit_call (commit_at 0 (Ok tt))) strip)
   commit_entered e d =
       let held =
       ((d.strip_is 1 (omega arith)).holds 0 3).1
       (record { call = 0; outline = square; position = at_height 0; lies = lies 1 0 (omega arith); covered = cell_0 }) in
-      none_before (λ _. commit_call (commit_at 0 Committed)) 0 3 (((d.strip_is 0 (omega arith)).holds 0 3).0 (rw (← e) held))
+      none_before (λ _. commit_call (commit_at 0 (Ok tt))) 0 3 (((d.strip_is 0 (omega arith)).holds 0 3).0 (rw (← e) held))
 
-  commit_apart : ¬ Demand3 10 2 10 0 (repeated lent 2 (commit_call (commit_at 0 Committed)) strip)
+  commit_apart : ¬ Demand3 10 2 10 0 (repeated lent 2 (commit_call (commit_at 0 (Ok tt))) strip)
   commit_apart d =
       d.no_point_in_two 2 0 1 square square (at_height 0) (at_height 0) 2 15 4 (omega arith) (omega arith) (lies 2 0 (omega arith))
       (lies 2 1 (omega arith)) inside_0 inside_0
 
-  commit_looked : ¬ Demand3 10 2 10 0 (repeated lent 1 (commit_call (commit_at 0 (NotCommitted (refusal 18 0)))) strip)
+  commit_looked : ¬ Demand3 10 2 10 0 (repeated lent 1 (commit_call (commit_at 0 (Err (refusal 18 0)))) strip)
   unfolding Free
   commit_looked d =
-      ((d.commit_18 0 (commit_at 0 (NotCommitted (refusal 18 0))) (omega arith, refl)).0 refl).1
+      ((d.commit_18 0 (commit_at 0 (Err (refusal 18 0))) (omega arith, refl)).0 refl).1
       (record {
         on_strip = on_strip_0;
-        free = λ i j c o. none_before (λ _. commit_call (commit_at 0 (NotCommitted (refusal 18 0)))) i j o;
+        free = λ i j c o. none_before (λ _. commit_call (commit_at 0 (Err (refusal 18 0)))) i j o;
       })
 
   commit_not_refused : (n k : ℕ) → length lent ≡ 39 →
-      ¬ Demand3 10 2 10 0 (repeated lent 1 (commit_call (commit_at 0 (NotCommitted (refusal n k)))) strip)
+      ¬ Demand3 10 2 10 0 (repeated lent 1 (commit_call (commit_at 0 (Err (refusal n k)))) strip)
   unfolding Question5 Free
   commit_not_refused n k long d =
-      let c = commit_at 0 (NotCommitted (refusal n k)) in
+      let c = commit_at 0 (Err (refusal n k)) in
       let call : ℕ → Call = λ _. commit_call c in
-      not_committed
+      no_grant {r = refusal n k}
       (d.commits_it 0 c (omega arith, refl) (record { q5 = (d.Q, (d.strip_is 0 (omega arith)).well_formed); q7to12 = asked })
       (record { on_strip = on_strip_0; free = λ i j c o. none_before call i j o })
       (subst (λ (q : ℕ). Question14 10 2 10 0 q (Occupied 10 2 10 0 call 0) square (at_height 0)) (sym (six _ long d))
       (room_0 (Occupied 10 2 10 0 call 0) (none_before call))))
-    where
-      not_committed : ¬ (NotCommitted (refusal n k) ≡ Committed)
-      not_committed e = let z : ◌≡◌ {A = ℕ} 0 1 = cc in omega arith
 
 pub wrong_lists : WrongLists
 wrong_lists =

@@ -1,12 +1,8 @@
 -- "Only record numbers and free-chain order are the program's choice: say so, and what every choice has in common." Any two strips that
 -- one and the same granted call may leave differ only in how the records are numbered. Assumes nothing.
-use Rattle.std.specs.Prelude.{◌≡◌, List, ℕ, ◌≤◌, length}
+use Rattle.std.specs.Prelude.{◌≡◌, List, ℕ, ◌≤◌, length, Ok}
 use Rattle.defs.specs.declared.Position.{Position}
 use Rattle.defs.specs.declared.Totals.{Totals}
-use Rattle.defs.specs.declared.Opening.TheVariants.{Opened}
-use Rattle.defs.specs.declared.Placing.TheVariants.{Placed}
-use Rattle.defs.specs.declared.Committing.TheVariants.{Committed}
-use Rattle.defs.specs.declared.Laying.TheVariants.{Laid}
 use Rattle.defs.specs.Meaning.Limits.{Between}
 use Rattle.defs.specs.Meaning.Strip.{Length, width_of, resolution_of, columns_of, gap_of, first_of, column_of, low_of, high_of, next_of}
 use Rattle.defs.specs.Meaning.Sheet.{sheet_n}
@@ -36,31 +32,31 @@ pub record Renumbered (Q : ℕ) (s s' : List ℕ) : Type 0 where
 
 pub record OnlyNumbersOpen : Type 0 where
   pub open_leaves :
-      {W R N g Q : ℕ} {s s₁ s₂ : List ℕ} → Length N Q (length s) → OpenStep W R N g s Opened s₁ → OpenStep W R N g s Opened s₂ →
+      {W R N g Q : ℕ} {s s₁ s₂ : List ℕ} → Length N Q (length s) → OpenStep W R N g s (Ok tt) s₁ → OpenStep W R N g s (Ok tt) s₂ →
       Renumbered Q s₁ s₂
   pub place_leaves :
       {Q : ℕ} {s o : List ℕ} {mask : ℕ} {work : List ℕ} {p : Position} {n₁ n₂ : ℕ} {s₁ work₁ s₂ work₂ : List ℕ} →
-      Length (columns_of s) Q (length s) → PlaceStep s o mask work (Placed p) n₁ s₁ work₁ →
-      PlaceStep s o mask work (Placed p) n₂ s₂ work₂ → Renumbered Q s₁ s₂
+      Length (columns_of s) Q (length s) → PlaceStep s o mask work (Ok p) n₁ s₁ work₁ →
+      PlaceStep s o mask work (Ok p) n₂ s₂ work₂ → Renumbered Q s₁ s₂
   pub commit_leaves :
       {Q : ℕ} {s o : List ℕ} {p : Position} {work s₁ work₁ s₂ work₂ : List ℕ} → Length (columns_of s) Q (length s) →
-      CommitStep s o p work Committed s₁ work₁ → CommitStep s o p work Committed s₂ work₂ → Renumbered Q s₁ s₂
+      CommitStep s o p work (Ok tt) s₁ work₁ → CommitStep s o p work (Ok tt) s₂ work₂ → Renumbered Q s₁ s₂
   pub lay_leaves :
       {g Q : ℕ} {b s out work : List ℕ} {t : Totals} {s₁ out₁ work₁ s₂ out₂ work₂ : List ℕ} → Length (sheet_n b) Q (length s) →
-      LayStep b g s out work (Laid t) s₁ out₁ work₁ → LayStep b g s out work (Laid t) s₂ out₂ work₂ → Renumbered Q s₁ s₂
+      LayStep b g s out work (Ok t) s₁ out₁ work₁ → LayStep b g s out work (Ok t) s₂ out₂ work₂ → Renumbered Q s₁ s₂
 
 -- And each numbering will do: what a call may leave, numbered anew, it may leave as well.
 pub record AnyNumbers : Type 0 where
   pub open_may :
-      {W R N g Q : ℕ} {s s₁ s₂ : List ℕ} → Length N Q (length s) → OpenStep W R N g s Opened s₁ → Renumbered Q s₁ s₂ →
-      OpenStep W R N g s Opened s₂
+      {W R N g Q : ℕ} {s s₁ s₂ : List ℕ} → Length N Q (length s) → OpenStep W R N g s (Ok tt) s₁ → Renumbered Q s₁ s₂ →
+      OpenStep W R N g s (Ok tt) s₂
   pub place_may :
       {Q : ℕ} {s o : List ℕ} {mask : ℕ} {work : List ℕ} {p : Position} {n : ℕ} {s₁ s₂ work' : List ℕ} →
-      Length (columns_of s) Q (length s) → PlaceStep s o mask work (Placed p) n s₁ work' → Renumbered Q s₁ s₂ →
-      PlaceStep s o mask work (Placed p) n s₂ work'
+      Length (columns_of s) Q (length s) → PlaceStep s o mask work (Ok p) n s₁ work' → Renumbered Q s₁ s₂ →
+      PlaceStep s o mask work (Ok p) n s₂ work'
   pub commit_may :
       {Q : ℕ} {s o : List ℕ} {p : Position} {work s₁ s₂ work' : List ℕ} → Length (columns_of s) Q (length s) →
-      CommitStep s o p work Committed s₁ work' → Renumbered Q s₁ s₂ → CommitStep s o p work Committed s₂ work'
+      CommitStep s o p work (Ok tt) s₁ work' → Renumbered Q s₁ s₂ → CommitStep s o p work (Ok tt) s₂ work'
   pub lay_may :
       {g Q : ℕ} {b s out work : List ℕ} {t : Totals} {s₁ s₂ out' work' : List ℕ} → Length (sheet_n b) Q (length s) →
-      LayStep b g s out work (Laid t) s₁ out' work' → Renumbered Q s₁ s₂ → LayStep b g s out work (Laid t) s₂ out' work'
+      LayStep b g s out work (Ok t) s₁ out' work' → Renumbered Q s₁ s₂ → LayStep b g s out work (Ok t) s₂ out' work'

@@ -1,12 +1,8 @@
 -- Demand 2: cells of an outline, and sheets that read back. What the strip holds is `strip_is` of demand 3.
 -- Assumes nothing.
-use Rattle.std.specs.Prelude.{◌≡◌, ◌↔◌, ◌⊎◌, List, ℕ, ◌+◌, ◌*◌, ◌≤◌, ◌<◌, length, get_or, take}
-use Rattle.defs.specs.declared.Covering.TheVariants.{Runs}
+use Rattle.std.specs.Prelude.{◌≡◌, ◌↔◌, ◌⊎◌, List, ℕ, ◌+◌, ◌*◌, ◌≤◌, ◌<◌, length, get_or, take, Result, Ok}
+use Rattle.defs.specs.declared.Refusal.{Refusal}
 use Rattle.defs.specs.declared.Figures.{Figures}
-use Rattle.defs.specs.declared.Reading.{Reading}
-use Rattle.defs.specs.declared.Reading.TheVariants.{Read}
-use Rattle.defs.specs.declared.Writing.{Writing}
-use Rattle.defs.specs.declared.Writing.TheVariants.{Written}
 use Rattle.defs.specs.Meaning.Limits.{most_bytes}
 use Rattle.defs.specs.Meaning.Turn.{turned}
 use Rattle.defs.specs.Meaning.Cell.{CoveredGap, Run}
@@ -35,7 +31,7 @@ pub record CellsAre (o : List ℕ) (t R g n : ℕ) (out : List ℕ) : Type 0 whe
 
 unfoldable pub Demand2_cells : Type 0
 Demand2_cells =
-    (o : List ℕ) (t R g n : ℕ) (out out' : List ℕ) → CoverStep o t R g out (Runs n) out' → CellsAre o t R g n out'
+    (o : List ℕ) (t R g n : ℕ) (out out' : List ℕ) → CoverStep o t R g out (Ok n) out' → CellsAre o t R g n out'
 
 -- "A sheet written from an accepted cut list reads back as that list."
 pub record ReadsBack (W R N : ℕ) (ws sheet : List ℕ) : Type 0 where
@@ -46,13 +42,13 @@ pub record ReadsBack (W R N : ℕ) (ws sheet : List ℕ) : Type 0 where
   pub resolution : sheet_r sheet ≡ R
   pub columns : sheet_n sheet ≡ N
   pub read :
-      (a : Reading) (out out' : List ℕ) → ReadStep sheet out a out' → length (list_words pieces) ≤ length out →
-      (a ≡ Read (record { width = W; resolution = R; columns = N })) ×
+      (a : Result Figures Refusal) (out out' : List ℕ) → ReadStep sheet out a out' → length (list_words pieces) ≤ length out →
+      (a ≡ Ok (record { width = W; resolution = R; columns = N })) ×
       (take (length (list_words pieces)) out' ≡ list_words pieces)
 
 unfoldable pub Demand2_sheets : Type 0
 Demand2_sheets =
-    (W R N n : ℕ) (ws out out' : List ℕ) → WriteStep W R N ws out (Written n) out' → ReadsBack W R N ws (take n out')
+    (W R N n : ℕ) (ws out out' : List ℕ) → WriteStep W R N ws out (Ok n) out' → ReadsBack W R N ws (take n out')
 
 -- And the other way round: what a granted read gave, written and read again, is the same. The sheet holds pieces, read's output begins
 -- with their list, and the figures are the sheet's. Take any words ws that begin with that list: the output itself, or its first words
@@ -68,12 +64,12 @@ pub record ReadsAgain (sheet out : List ℕ) (f : Figures) : Type 0 where
   pub resolution : f.resolution ≡ sheet_r sheet
   pub columns : f.columns ≡ sheet_n sheet
   pub granted :
-      (ws o o' : List ℕ) (a : Writing) → ListHolds ws pieces → WriteStep f.width f.resolution f.columns ws o a o' →
-      size_of pieces ≤ most_bytes → size_of pieces ≤ length o → a ≡ Written (size_of pieces)
+      (ws o o' : List ℕ) (a : Result ℕ Refusal) → ListHolds ws pieces → WriteStep f.width f.resolution f.columns ws o a o' →
+      size_of pieces ≤ most_bytes → size_of pieces ≤ length o → a ≡ Ok (size_of pieces)
   pub again :
-      (ws o o' : List ℕ) (n : ℕ) → ListHolds ws pieces → WriteStep f.width f.resolution f.columns ws o (Written n) o' →
-      (a : Reading) (r r' : List ℕ) → ReadStep (take n o') r a r' → length (list_words pieces) ≤ length r →
-      (a ≡ Read f) × (take (length (list_words pieces)) r' ≡ take (length (list_words pieces)) out)
+      (ws o o' : List ℕ) (n : ℕ) → ListHolds ws pieces → WriteStep f.width f.resolution f.columns ws o (Ok n) o' →
+      (a : Result Figures Refusal) (r r' : List ℕ) → ReadStep (take n o') r a r' → length (list_words pieces) ≤ length r →
+      (a ≡ Ok f) × (take (length (list_words pieces)) r' ≡ take (length (list_words pieces)) out)
 
 unfoldable pub Demand2_again : Type 0
-Demand2_again = (sheet out out' : List ℕ) (f : Figures) → ReadStep sheet out (Read f) out' → ReadsAgain sheet out' f
+Demand2_again = (sheet out out' : List ℕ) (f : Figures) → ReadStep sheet out (Ok f) out' → ReadsAgain sheet out' f

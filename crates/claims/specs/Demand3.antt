@@ -1,11 +1,8 @@
 -- Demand 3 as one claim about a whole list of calls, with ask and commit by S-2: it speaks of what the calls were lent, answered and
 -- left, and of no program. Assumes nothing.
-use Rattle.std.specs.Prelude.{◌≡◌, ◌↔◌, ◌≢◌, ◌⊎◌, List, ℕ, suc, ◌^◌, ◌≤◌, ◌<◌, length}
+use Rattle.std.specs.Prelude.{◌≡◌, ◌↔◌, ◌≢◌, ◌⊎◌, List, ℕ, suc, ◌^◌, ◌≤◌, ◌<◌, length, Result, Ok, Err}
+use Rattle.defs.specs.declared.Refusal.{Refusal}
 use Rattle.defs.specs.declared.Position.{Position}
-use Rattle.defs.specs.declared.Placing.{Placing}
-use Rattle.defs.specs.declared.Placing.TheVariants.{Placed}
-use Rattle.defs.specs.declared.Asking.TheVariants.{Found}
-use Rattle.defs.specs.declared.Committing.TheVariants.{Committed, Refused as NotCommitted}
 use Rattle.defs.specs.Answer.{number_of, number_of_ask, number_of_commit}
 use Rattle.defs.specs.Meaning.Limits.{most_turn}
 use Rattle.defs.specs.Meaning.Outline.{Inside}
@@ -13,7 +10,7 @@ use Rattle.defs.specs.Meaning.Cell.{Cells}
 use Rattle.defs.specs.Meaning.Strip.{Length, WellFormed, Holds, width_of, resolution_of, columns_of, gap_of}
 use Rattle.defs.specs.Meaning.Placing.{moved, OnStrip, Free, Best}
 use Rattle.defs.specs.Meaning.Question.{AskedBefore13, Question13, Question14, Question18}
-use Rattle.defs.specs.Computing.Calls.{refusal, shown, PlaceStep}
+use Rattle.defs.specs.Computing.Calls.{refusal, PlaceStep}
 use Rattle.claims.specs.Distance.{Distant}
 use Rattle.claims.specs.Trace.{PlaceCall, AskCall, CommitCall, place_call, ask_call, commit_call, Calls, Trace, number_in, Puts, Changes, Lies, Occupied}
 
@@ -72,23 +69,23 @@ pub record Demand3 (W R N g : ℕ) (x : Calls) : Type 0 where
   pub free : (m : ℕ) (o : List ℕ) (p : Position) → m < x.count → Puts (x.call m) o p → Free (Taken x W R N g m) W R N g o p
   -- "Best position is promised for place,"
   pub best_place :
-      (m : ℕ) (c : PlaceCall) (p : Position) → Place x m c → c.answer ≡ Placed p →
+      (m : ℕ) (c : PlaceCall) (p : Position) → Place x m c → c.answer ≡ Ok p →
       Best W R N g (Taken x W R N g m) c.outline c.mask p
   -- "Ask answers the position that place would give"
   pub best_ask :
-      (m : ℕ) (c : AskCall) (p : Position) → Ask x m c → c.answer ≡ Found p →
+      (m : ℕ) (c : AskCall) (p : Position) → Ask x m c → c.answer ≡ Ok p →
       Best W R N g (Taken x W R N g m) c.outline c.mask p
   -- "and, in the ask's allowed turns, for a commit of the same outline at an ask's answer with no other granted call that
   -- changes the strip between them."
   pub best_commit :
       (l m : ℕ) (a : AskCall) (c : CommitCall) → l < m → Ask x l a → Commit x m c → a.outline ≡ c.outline →
-      a.answer ≡ Found c.at → NoChange x l m → c.answer ≡ Committed →
+      a.answer ≡ Ok c.at → NoChange x l m → c.answer ≡ Ok tt →
       Best W R N g (Taken x W R N g m) c.outline a.mask c.at
   -- such a commit is granted; only a work buffer shorter than the ask's may get 12
   pub as_asked :
       (l m : ℕ) (a : AskCall) (c : CommitCall) → l < m → Ask x l a → Commit x m c → a.outline ≡ c.outline →
-      a.answer ≡ Found c.at →
-      NoChange x l m → (c.answer ≡ Committed) ⊎ ((c.answer ≡ NotCommitted (refusal 12 1)) × (length c.work < length a.work))
+      a.answer ≡ Ok c.at →
+      NoChange x l m → (c.answer ≡ Ok tt) ⊎ ((c.answer ≡ Err (refusal 12 1)) × (length c.work < length a.work))
   -- "'no position' (13) exactly when the checks before it pass and no free position exists in any allowed turn"
   pub no_position :
       (m : ℕ) (c : PlaceCall) → Place x m c →
@@ -111,22 +108,22 @@ pub record Demand3 (W R N g : ℕ) (x : Calls) : Type 0 where
       (m : ℕ) (c : PlaceCall) → Place x m c → Asked x R g m c.outline c.mask c.work → SomeFree x W R N g m c.outline c.mask →
       ((p : Position) → Best W R N g (Taken x W R N g m) c.outline c.mask p →
       Question14 W R N g Q (Taken x W R N g m) c.outline p) →
-      (p : Position) × (c.answer ≡ Placed p)
+      (p : Position) × (c.answer ≡ Ok p)
   -- an ask then answers a position, and a commit enters
   pub finds_it :
       (m : ℕ) (c : AskCall) → Ask x m c → Asked x R g m c.outline c.mask c.work → SomeFree x W R N g m c.outline c.mask →
       ((p : Position) → Best W R N g (Taken x W R N g m) c.outline c.mask p →
       Question14 W R N g Q (Taken x W R N g m) c.outline p) →
-      (p : Position) × (c.answer ≡ Found p)
+      (p : Position) × (c.answer ≡ Ok p)
   pub commits_it :
       (m : ℕ) (c : CommitCall) → Commit x m c → Asked x R g m c.outline (2 ^ c.at.turn) c.work →
       Question18 W R N g (Taken x W R N g m) c.outline c.at → Question14 W R N g Q (Taken x W R N g m) c.outline c.at →
-      c.answer ≡ Committed
+      c.answer ≡ Ok tt
   -- "Ask answers the position that place would give, or its number, and changes no strip word.": whatever a place call in its stead
   -- may answer by the definitions
   pub ask_as_place :
-      (m : ℕ) (c : AskCall) (b : Placing) (n : ℕ) (s' work' : List ℕ) → Ask x m c →
-      PlaceStep (x.strip m) c.outline c.mask c.work b n s' work' → c.answer ≡ shown b
+      (m : ℕ) (c : AskCall) (b : Result Position Refusal) (n : ℕ) (s' work' : List ℕ) → Ask x m c →
+      PlaceStep (x.strip m) c.outline c.mask c.work b n s' work' → c.answer ≡ b
   pub ask_keeps : (m : ℕ) (c : AskCall) → Ask x m c → x.strip (suc m) ≡ x.strip m
   -- demand 2 over the list: "The strip holds the cells of the placed pieces and no others", before call m and, at m = count,
   -- after the list

@@ -1,6 +1,5 @@
 -- Lay is one list of place calls, so that demand 3 covers it; its totals are those of its output. Assumes nothing.
-use Rattle.std.specs.Prelude.{◌≡◌, List, [], ℕ, ◌+◌, ◌*◌, ◌<◌, length, get_or}
-use Rattle.defs.specs.declared.Laying.TheVariants.{Laid}
+use Rattle.std.specs.Prelude.{◌≡◌, List, [], ℕ, ◌+◌, ◌*◌, ◌<◌, length, get_or, Ok}
 use Rattle.defs.specs.declared.Totals.{Totals}
 use Rattle.defs.specs.Answer.{fate_words}
 use Rattle.defs.specs.Meaning.Sheet.{Piece, SheetHolds, sheet_w, sheet_r, sheet_n}
@@ -34,11 +33,11 @@ pub record LaysList (b : List ℕ) (g : ℕ) (s : List ℕ) (t : Totals) (s' out
 unfoldable pub Lay_is_a_list : Type 0
 Lay_is_a_list =
     (b : List ℕ) (g : ℕ) (s out work : List ℕ) (t : Totals) (s' out' work' : List ℕ) →
-    LayStep b g s out work (Laid t) s' out' work' → LaysList b g s t s' out' work
+    LayStep b g s out work (Ok t) s' out' work' → LaysList b g s t s' out' work
 
 -- Demand 3 for a laid job: its calls are a list of place calls, of which all of demand 3 holds.
 unfoldable pub Lay_demand3 : Type 0
 Lay_demand3 =
     (b : List ℕ) (g : ℕ) (s out work : List ℕ) (t : Totals) (s' out' work' : List ℕ) →
-    LayStep b g s out work (Laid t) s' out' work' →
+    LayStep b g s out work (Ok t) s' out' work' →
     (l : LaysList b g s t s' out' work) × PlaceDemand3 (sheet_w b) (sheet_r b) (sheet_n b) g l.list

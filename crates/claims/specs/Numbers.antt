@@ -1,19 +1,10 @@
 -- Demand 1: "bad input gets its number from document 01". The questions of each call as document 01 lists them, in their order, each
 -- with its number and with the ordinal that a "no" gives; the first "no" is the answer, and where there is none the call is granted with
 -- the values said last. Assumes nothing.
-use Rattle.std.specs.Prelude.{◌≡◌, ◌⊎◌, ◌↔◌, List, [], ◌∷◌, ℕ, zero, suc, ◌+◌, ◌*◌, ◌^◌, ◌≤◌, ◌<◌, length, get_or, drop}
+use Rattle.std.specs.Prelude.{◌≡◌, ◌⊎◌, ◌↔◌, List, [], ◌∷◌, ℕ, zero, suc, ◌+◌, ◌*◌, ◌^◌, ◌≤◌, ◌<◌, length, get_or, drop, Result, Ok}
+use Rattle.defs.specs.declared.Figures.{Figures}
+use Rattle.defs.specs.declared.Refusal.{Refusal}
 use Rattle.defs.specs.declared.Position.{Position}
-use Rattle.defs.specs.declared.Opening.{Opening}
-use Rattle.defs.specs.declared.Covering.{Covering}
-use Rattle.defs.specs.declared.Placing.{Placing}
-use Rattle.defs.specs.declared.Placing.TheVariants.{Placed}
-use Rattle.defs.specs.declared.Asking.{Asking}
-use Rattle.defs.specs.declared.Committing.{Committing}
-use Rattle.defs.specs.declared.Committing.TheVariants.{Committed}
-use Rattle.defs.specs.declared.Reading.{Reading}
-use Rattle.defs.specs.declared.Writing.{Writing}
-use Rattle.defs.specs.declared.Laying.{Laying}
-use Rattle.defs.specs.declared.Laying.TheVariants.{Laid}
 use Rattle.defs.specs.declared.Totals.{Totals}
 use Rattle.defs.specs.Answer.{Outcome, opening, covering, placing, asking, committing, reading, writing, laying}
 use Rattle.defs.specs.Meaning.Cell.{Cells, AtMostRuns}
@@ -181,12 +172,12 @@ write_questions W R N ws bytes =
 pub record LaidTotals (b : List ℕ) (g work Q : ℕ) (rs values : List ℕ) : Type 0 where
   pub pieces : List Piece
   pub are_pieces : Pieces b rs pieces
-  pub answer : ℕ → Placing
+  pub answer : ℕ → Result Position Refusal
   pub fates :
       (m : ℕ) → m < length pieces →
       Answers
       (fate_questions (sheet_w b) (sheet_r b) (sheet_n b) g Q
-      (OccupiedBefore (sheet_w b) (sheet_r b) (sheet_n b) g (λ l. (piece_at pieces l).outline) (λ l p. answer l ≡ Placed p) m)
+      (OccupiedBefore (sheet_w b) (sheet_r b) (sheet_n b) g (λ l. (piece_at pieces l).outline) (λ l p. answer l ≡ Ok p) m)
       (piece_at pieces m).outline (piece_at pieces m).mask work)
       (placing (answer m))
   pub placed : ℕ
@@ -239,41 +230,41 @@ pub record CommittedAlone (s o : List ℕ) (p : Position) (s' : List ℕ) : Type
 
 pub record Demand1_numbers : Type 0 where
   pub open_asks :
-      {W R N g : ℕ} {s s' : List ℕ} {a : Opening} → OpenStep W R N g s a s' → Answers (open_questions W R N g (length s)) (opening a)
+      {W R N g : ℕ} {s s' : List ℕ} {a : Result Unit Refusal} → OpenStep W R N g s a s' → Answers (open_questions W R N g (length s)) (opening a)
   pub cover_asks :
-      {o : List ℕ} {t R g : ℕ} {out out' : List ℕ} {a : Covering} → CoverStep o t R g out a out' →
+      {o : List ℕ} {t R g : ℕ} {out out' : List ℕ} {a : Result ℕ Refusal} → CoverStep o t R g out a out' →
       Answers (cover_questions o t R g (length out)) (covering a)
   -- "For one place call alone, a cell is occupied if a run of the lent strip holds it."
   pub place_asks :
-      {s o : List ℕ} {mask : ℕ} {work : List ℕ} {a : Placing} {n : ℕ} {s' work' : List ℕ} → PlaceStep s o mask work a n s' work' →
+      {s o : List ℕ} {mask : ℕ} {work : List ℕ} {a : Result Position Refusal} {n : ℕ} {s' work' : List ℕ} → PlaceStep s o mask work a n s' work' →
       Answers (place_questions s (Holds s) o mask (length work)) (placing a)
   pub place_alone :
       {s o : List ℕ} {mask : ℕ} {work : List ℕ} {p : Position} {n : ℕ} {s' work' : List ℕ} →
-      PlaceStep s o mask work (Placed p) n s' work' → PlacedAlone s o mask p s'
+      PlaceStep s o mask work (Ok p) n s' work' → PlacedAlone s o mask p s'
   pub ask_asks :
-      {s o : List ℕ} {mask : ℕ} {work : List ℕ} {a : Asking} {n : ℕ} {s' work' : List ℕ} → AskStep s o mask work a n s' work' →
+      {s o : List ℕ} {mask : ℕ} {work : List ℕ} {a : Result Position Refusal} {n : ℕ} {s' work' : List ℕ} → AskStep s o mask work a n s' work' →
       Answers (ask_questions s (Holds s) o mask (length work)) (asking a)
   pub commit_asks :
-      {s o : List ℕ} {p : Position} {work s' work' : List ℕ} {a : Committing} → CommitStep s o p work a s' work' →
+      {s o : List ℕ} {p : Position} {work s' work' : List ℕ} {a : Result Unit Refusal} → CommitStep s o p work a s' work' →
       Answers (commit_questions s (Holds s) o p (length work)) (committing a)
   pub commit_alone :
-      {s o : List ℕ} {p : Position} {work s' work' : List ℕ} → CommitStep s o p work Committed s' work' → CommittedAlone s o p s'
+      {s o : List ℕ} {p : Position} {work s' work' : List ℕ} → CommitStep s o p work (Ok tt) s' work' → CommittedAlone s o p s'
   -- A call of a list: "A cell is occupied there if it is covered for a piece placed by an earlier call of the list".
   pub list_asks :
       {W R N g : ℕ} {x : Calls} → Trace W R N g x → (m : ℕ) → m < x.count →
       Answers (call_questions (x.strip m) (Occupied W R N g x.call m) (x.call m)) (outcome_in (x.call m))
   pub read_asks :
-      {b out out' : List ℕ} {a : Reading} → ReadStep b out a out' → Answers (read_questions b (length out)) (reading a)
+      {b out out' : List ℕ} {a : Result Figures Refusal} → ReadStep b out a out' → Answers (read_questions b (length out)) (reading a)
   pub write_asks :
-      {W R N : ℕ} {ws out out' : List ℕ} {a : Writing} → WriteStep W R N ws out a out' →
+      {W R N : ℕ} {ws out out' : List ℕ} {a : Result ℕ Refusal} → WriteStep W R N ws out a out' →
       Answers (write_questions W R N ws (length out)) (writing a)
   pub lay_asks :
-      {b : List ℕ} {g : ℕ} {s out work s' out' work' : List ℕ} {a : Laying} → LayStep b g s out work a s' out' work' →
+      {b : List ℕ} {g : ℕ} {s out work s' out' work' : List ℕ} {a : Result Totals Refusal} → LayStep b g s out work a s' out' work' →
       Answers (lay_questions b g (length s) (length out) (length work)) (laying a)
   -- "and 12 to 14 only as a piece's fate": each piece of a laid job is placed at its best position or gets the first "no" of 12 to 14,
   -- against the pieces placed before it.
   pub lay_fates :
-      {b : List ℕ} {g : ℕ} {s out work : List ℕ} {t : Totals} {s' out' work' : List ℕ} → LayStep b g s out work (Laid t) s' out' work' →
+      {b : List ℕ} {g : ℕ} {s out work : List ℕ} {t : Totals} {s' out' work' : List ℕ} → LayStep b g s out work (Ok t) s' out' work' →
       (l : LaysList b g s t s' out' work) (Q : ℕ) → Length (sheet_n b) Q (length s) → (m : ℕ) → m < length l.pieces →
       Answers
       (fate_questions (sheet_w b) (sheet_r b) (sheet_n b) g Q (PlacedCells (sheet_w b) (sheet_r b) (sheet_n b) g l.list.call m)

@@ -1,9 +1,7 @@
 -- Lists of place calls alone, as document 01 has them, and demand 3 of them in its own words: such a list is a list of calls.
 -- Assumes nothing.
-use Rattle.std.specs.Prelude.{◌≡◌, ◌↔◌, ◌≢◌, List, ℕ, suc, ◌≤◌, ◌<◌, length}
+use Rattle.std.specs.Prelude.{◌≡◌, ◌↔◌, ◌≢◌, List, ℕ, suc, ◌≤◌, ◌<◌, length, Ok}
 use Rattle.defs.specs.declared.Position.{Position}
-use Rattle.defs.specs.declared.Opening.TheVariants.{Opened}
-use Rattle.defs.specs.declared.Placing.TheVariants.{Placed}
 use Rattle.defs.specs.Answer.{number_of}
 use Rattle.defs.specs.Meaning.Outline.{Inside}
 use Rattle.defs.specs.Meaning.Cell.{Cells}
@@ -23,7 +21,7 @@ pub record PlaceCalls : Type 0 where
 
 -- its steps are those of open and place
 pub record PlaceTrace (W R N g : ℕ) (x : PlaceCalls) : Type 0 where
-  pub open_step : OpenStep W R N g x.lent Opened (x.strip 0)
+  pub open_step : OpenStep W R N g x.lent (Ok tt) (x.strip 0)
   pub place_step :
       (m : ℕ) → m < x.count →
       PlaceStep (x.strip m) (x.call m).outline (x.call m).mask (x.call m).work (x.call m).answer
@@ -36,7 +34,7 @@ as_calls x = record { lent = x.lent; count = x.count; call = λ m. place_call (x
 -- "a granted place call makes one placed piece, its outline moved to the position answered, …; a refused one, whatever its
 -- number, makes none."
 abbrev pub Places : PlaceCall → Position → Type 0
-Places c p = c.answer ≡ Placed p
+Places c p = c.answer ≡ Ok p
 
 -- "A cell is occupied there if it is covered for a piece placed by an earlier call of the list, whatever the strip's words say."
 abbrev pub PlacedCells : ℕ → ℕ → ℕ → ℕ → (ℕ → PlaceCall) → ℕ → Cells

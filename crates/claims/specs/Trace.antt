@@ -1,13 +1,8 @@
 -- Lists of calls from a freshly opened strip ("Placing" of document 01; S-2: "any list as in demand 3, now of ask, commit and place"),
 -- and which pieces such a list has put on the strip. Assumes nothing.
-use Rattle.std.specs.Prelude.{◌≡◌, List, ℕ, suc, ◌<◌}
+use Rattle.std.specs.Prelude.{◌≡◌, List, ℕ, suc, ◌<◌, Result, Ok}
+use Rattle.defs.specs.declared.Refusal.{Refusal}
 use Rattle.defs.specs.declared.Position.{Position}
-use Rattle.defs.specs.declared.Opening.TheVariants.{Opened}
-use Rattle.defs.specs.declared.Placing.{Placing}
-use Rattle.defs.specs.declared.Placing.TheVariants.{Placed}
-use Rattle.defs.specs.declared.Asking.{Asking}
-use Rattle.defs.specs.declared.Committing.{Committing}
-use Rattle.defs.specs.declared.Committing.TheVariants.{Committed}
 use Rattle.defs.specs.Answer.{number_of, number_of_ask, number_of_commit}
 use Rattle.defs.specs.Meaning.Cell.{Cells}
 use Rattle.defs.specs.Meaning.Placing.{OccupiedBy}
@@ -18,7 +13,7 @@ pub record PlaceCall : Type 0 where
   pub outline : List ℕ
   pub mask : ℕ
   pub work : List ℕ
-  pub answer : Placing
+  pub answer : Result Position Refusal
   pub tries : ℕ
   pub work_after : List ℕ
 
@@ -26,7 +21,7 @@ pub record AskCall : Type 0 where
   pub outline : List ℕ
   pub mask : ℕ
   pub work : List ℕ
-  pub answer : Asking
+  pub answer : Result Position Refusal
   pub tries : ℕ
   pub work_after : List ℕ
 
@@ -34,7 +29,7 @@ pub record CommitCall : Type 0 where
   pub outline : List ℕ
   pub at : Position
   pub work : List ℕ
-  pub answer : Committing
+  pub answer : Result Unit Refusal
   pub work_after : List ℕ
 
 pub data Call : Type 0 where
@@ -59,7 +54,7 @@ pub record Calls : Type 0 where
 -- "A list begins after a granted open, with nothing placed. Each call gets … the strip as open or the call before it,
 -- granted or refused, left it; nothing else writes the strip meanwhile.": its steps are those of open and of the calls.
 pub record Trace (W R N g : ℕ) (x : Calls) : Type 0 where
-  pub open_step : OpenStep W R N g x.lent Opened (x.strip 0)
+  pub open_step : OpenStep W R N g x.lent (Ok tt) (x.strip 0)
   pub step : (m : ℕ) → m < x.count → Step (x.call m) (x.strip m) (x.strip (suc m))
 
 -- the number that a call answers, 0 where it is granted
@@ -72,15 +67,15 @@ number_in (commit_call c) = number_of_commit c.answer
 -- outline moved to the position answered, …; a refused one, whatever its number, makes none." S-2: "a committed piece counts as
 -- placed …, an ask places none." The call has put outline o at p.
 unfoldable pub Puts : Call → List ℕ → Position → Type 0
-Puts (place_call c) o p = (c.outline ≡ o) × (c.answer ≡ Placed p)
+Puts (place_call c) o p = (c.outline ≡ o) × (c.answer ≡ Ok p)
 Puts (ask_call c) o p = ⊥
-Puts (commit_call c) o p = (c.outline ≡ o) × (c.at ≡ p) × (c.answer ≡ Committed)
+Puts (commit_call c) o p = (c.outline ≡ o) × (c.at ≡ p) × (c.answer ≡ Ok tt)
 
 -- a "granted call that changes the strip"
 unfoldable pub Changes : Call → Type 0
-Changes (place_call c) = (p : Position) × (c.answer ≡ Placed p)
+Changes (place_call c) = (p : Position) × (c.answer ≡ Ok p)
 Changes (ask_call c) = ⊥
-Changes (commit_call c) = c.answer ≡ Committed
+Changes (commit_call c) = c.answer ≡ Ok tt
 
 -- The piece that call l has put, outline o at p, is on the strip before call m.
 pub record Lies (call : ℕ → Call) (m l : ℕ) (o : List ℕ) (p : Position) : Type 0 where

@@ -1,11 +1,8 @@
 -- S-5: the tries that ask and place report. That they are the steps of the walk (Computing/Walk of defs) is `counted` of their steps; here,
 -- what can be said of them, and that the walk finds what is promised. Assumes nothing.
-use Rattle.std.specs.Prelude.{◌≡◌, List, [], ℕ, ◌+◌, ◌-◌, ◌≤◌, ◌<◌, length, get_or}
+use Rattle.std.specs.Prelude.{◌≡◌, List, [], ℕ, ◌+◌, ◌-◌, ◌≤◌, ◌<◌, length, get_or, Result, Err}
+use Rattle.defs.specs.declared.Position.{Position}
 use Rattle.defs.specs.declared.Refusal.{Refusal}
-use Rattle.defs.specs.declared.Placing.{Placing}
-use Rattle.defs.specs.declared.Placing.TheVariants.{Refused as NotPlaced}
-use Rattle.defs.specs.declared.Asking.{Asking}
-use Rattle.defs.specs.declared.Asking.TheVariants.{Refused as NotFound}
 use Rattle.defs.specs.Meaning.Turn.{extent_y}
 use Rattle.defs.specs.Meaning.Strip.{width_of, resolution_of, columns_of, gap_of}
 use Rattle.defs.specs.Computing.Cells.{Rows}
@@ -21,18 +18,18 @@ bound_on s o mask = tries_bound (width_of s) (resolution_of s) (columns_of s) (g
 pub record Tries : Type 0 where
   -- "They are at most …"
   pub place_bounded :
-      {s o : List ℕ} {mask : ℕ} {work : List ℕ} {a : Placing} {n : ℕ} {s' work' : List ℕ} → PlaceStep s o mask work a n s' work' →
+      {s o : List ℕ} {mask : ℕ} {work : List ℕ} {a : Result Position Refusal} {n : ℕ} {s' work' : List ℕ} → PlaceStep s o mask work a n s' work' →
       n ≤ bound_on s o mask
   pub ask_bounded :
-      {s o : List ℕ} {mask : ℕ} {work : List ℕ} {a : Asking} {n : ℕ} {s' work' : List ℕ} → AskStep s o mask work a n s' work' →
+      {s o : List ℕ} {mask : ℕ} {work : List ℕ} {a : Result Position Refusal} {n : ℕ} {s' work' : List ℕ} → AskStep s o mask work a n s' work' →
       n ≤ bound_on s o mask
   -- "0 where a check before 13 refuses"
   pub place_none :
       {s o : List ℕ} {mask : ℕ} {work : List ℕ} {r : Refusal} {n : ℕ} {s' work' : List ℕ} →
-      PlaceStep s o mask work (NotPlaced r) n s' work' → r.number < 13 → n ≡ 0
+      PlaceStep s o mask work (Err r) n s' work' → r.number < 13 → n ≡ 0
   pub ask_none :
       {s o : List ℕ} {mask : ℕ} {work : List ℕ} {r : Refusal} {n : ℕ} {s' work' : List ℕ} →
-      AskStep s o mask work (NotFound r) n s' work' → r.number < 13 → n ≡ 0
+      AskStep s o mask work (Err r) n s' work' → r.number < 13 → n ≡ 0
   -- What is counted is what is promised: the walk of a turn ends at the turn's least free position, and nowhere if it has none.
   pub walk_finds : (W R N g : ℕ) (strip : List (List Rows)) (o : List ℕ) (t : ℕ) → walk_end W R N g strip o t ≡ first_free W R N g strip o t
   -- A column has at most W - h + 1 tries; and that many steps are enough, so the definition's bound on them ends no column.

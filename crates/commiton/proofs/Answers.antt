@@ -8,10 +8,9 @@ use native.Mathlib.Omega.{arith}
 use lib.Dec.{ltb}
 use lib.ListN.{length}
 use borrow.Author.Tests.{lt-ltb, le-leb, lt-leb}
+use Rattle.std.specs.Prelude.{Result, Ok, Err}
+use Rattle.defs.specs.declared.Refusal.{Refusal}
 use Rattle.defs.specs.declared.Position.{Position}
-use Rattle.defs.specs.declared.Placing.{Placing}
-use Rattle.defs.specs.declared.Placing.TheVariants.{Placed, Refused as NotPlaced}
-use Rattle.defs.specs.declared.Committing.TheVariants.{Committed, Refused}
 use Rattle.defs.specs.Meaning.Outline.{KeepsOrder}
 use Rattle.defs.specs.Meaning.Turn.{turned, extent_x, extent_y}
 use Rattle.defs.specs.Meaning.Placing.{columns_for, end_column, top}
@@ -42,12 +41,12 @@ module _ (W R N g Q : ℕ) (held : List (List Rows)) (o : List ℕ) (p : Positio
   count = count_runs (piece_runs o p.turn R g)
 
   -- a "no" to one of 7 to 10
-  pub to_ten : {n : ℕ} → n ≡ turn_no o p.turn → 0 < n → Refused (refusal n 1) ≡ commit_on W R N g Q held o p words
+  pub to_ten : {n : ℕ} → n ≡ turn_no o p.turn → 0 < n → Err (refusal n 1) ≡ commit_on W R N g Q held o p words
   unfolding commit_on
   to_ten {n} e h = rw (outline_by_turn o p.turn R g words, ← e, pos_not_zero n h, pos_not_zero n h) refl
 
   module _ (none : 0 ≡ turn_no o p.turn) (Rpos : 1 ≤ R) where
-    pub eleven : count ≡ 0 → Refused (refusal 11 1) ≡ commit_on W R N g Q held o p words
+    pub eleven : count ≡ 0 → Err (refusal 11 1) ≡ commit_on W R N g Q held o p words
     unfolding commit_on
     eleven z = rw (outline_by_turn o p.turn R g words, ← none, none_without o p.turn R g none Rpos z) refl
 
@@ -56,7 +55,7 @@ module _ (W R N g Q : ℕ) (held : List (List Rows)) (o : List ℕ) (p : Positio
       passes_11 : ltb 0 (count_runs (piece_runs o p.turn R 0)) ≡ true
       passes_11 = lt-ltb 0 (count_runs (piece_runs o p.turn R 0)) ((some_without o p.turn R g none Rpos).0 some)
 
-      pub twelve : words < 3 * count → Refused (refusal 12 1) ≡ commit_on W R N g Q held o p words
+      pub twelve : words < 3 * count → Err (refusal 12 1) ≡ commit_on W R N g Q held o p words
       unfolding commit_on
       twelve l =
           rw (
@@ -68,7 +67,7 @@ module _ (W R N g Q : ℕ) (held : List (List Rows)) (o : List ℕ) (p : Positio
           ) refl
 
       module _ (room : 3 * count ≤ words) where
-        pub eighteen : q18b W R N g held o p ≡ false → Refused (refusal 18 0) ≡ commit_on W R N g Q held o p words
+        pub eighteen : q18b W R N g held o p ≡ false → Err (refusal 18 0) ≡ commit_on W R N g Q held o p words
         unfolding commit_on
         eighteen e =
             rw (
@@ -81,7 +80,7 @@ module _ (W R N g Q : ℕ) (held : List (List Rows)) (o : List ℕ) (p : Positio
             ) refl
 
         pub fourteen : q18b W R N g held o p ≡ true →
-            (ask (q14b W R g Q held o p) (Refused (refusal 14 1)) λ _. Committed) ≡ commit_on W R N g Q held o p words
+            (ask (q14b W R g Q held o p) (Err (refusal 14 1)) λ _. (Ok tt)) ≡ commit_on W R N g Q held o p words
         unfolding commit_on
         fourteen e =
             rw (
@@ -126,8 +125,8 @@ pub resolution : {f l h f' l' h' : List ℕ} {W R N g Q : ℕ} → Tabled f l h 
 resolution tabled = let r = tabled.limits.resolution in record { least = r.at_least; most = r.at_most }
 
 -- a refusal leaves no next table
-pub refused_on : {f l h f' l' h' o : List ℕ} {W R N g Q words number ordinal : ℕ} {p : Position} {a : Placing} →
-    a ≡ NotPlaced (refusal number ordinal) → Refused (refusal number ordinal) ≡ commit_on W R N g Q (table_of f l h N) o p words →
+pub refused_on : {f l h f' l' h' o : List ℕ} {W R N g Q words number ordinal : ℕ} {p : Position} {a : Result Position Refusal} →
+    a ≡ Err (refusal number ordinal) → Err (refusal number ordinal) ≡ commit_on W R N g Q (table_of f l h N) o p words →
     CommittedOn f l h f' l' h' o W R N g Q p words a
 refused_on {p = p} e q = rw e (record { answer = ap (placed_at p) q; next = tt })
 
@@ -159,13 +158,13 @@ module _ {f l h o work work' : List ℕ} {W R N g n k w wide tall : ℕ} {b : Bo
 
 -- what question 14 says, in both forms
 asked_at : (p : Position) (b : Bool) →
-    (ask b (NotPlaced (refusal 14 1)) λ _. Placed p) ≡ placed_at p (ask b (Refused (refusal 14 1)) λ _. Committed)
+    (ask b (Err (refusal 14 1)) λ _. Ok p) ≡ placed_at p (ask b (Err (refusal 14 1)) λ _. (Ok tt))
 asked_at p true = refl
 asked_at p false = refl
 
-pub entered_on : {f l h f' l' h' o : List ℕ} {W R N g Q words : ℕ} {p : Position} {a : Placing} →
+pub entered_on : {f l h f' l' h' o : List ℕ} {W R N g Q words : ℕ} {p : Position} {a : Result Position Refusal} →
     EntersAt f l h f' l' h' o W R N g Q p a →
-    (ask (q14b W R g Q (table_of f l h N) o p) (Refused (refusal 14 1)) λ _. Committed) ≡ commit_on W R N g Q (table_of f l h N) o p words →
+    (ask (q14b W R g Q (table_of f l h N) o p) (Err (refusal 14 1)) λ _. (Ok tt)) ≡ commit_on W R N g Q (table_of f l h N) o p words →
     CommittedOn f l h f' l' h' o W R N g Q p words a
 entered_on {f} {l} {h} {o = o} {W} {R} {N} {g} {Q} {p = p} enters q =
     record {

@@ -7,8 +7,7 @@ ghost use Rattle.outline.specs.Vertex.{BoundsOf};
 ghost use Rattle.position.specs.Table.{Tabled};
 ghost use Rattle.commiton.specs.Commits.{TurnPasses, CommittedOn};
 
-use checks::Checked;
-use defs::{Figures, Placing, Position};
+use defs::{Figures, Position, Refusal, refused};
 use outline::Bounds;
 use ranks::Standing;
 use walk::Search;
@@ -28,7 +27,7 @@ fn commit_runs(
     first2: &mut [u16],
     lows2: &mut [u16],
     highs2: &mut [u16],
-) -> Placing
+) -> Result<Position, Refusal>
     requires fact_1 { Tabled first.now lows.now highs.now first2.old lows2.old highs2.old g.width g.resolution g.columns gap q }
     requires fact_2 { TurnPasses o.now p.turn }
     requires fact_3 { BoundsOf o.now b }
@@ -37,10 +36,10 @@ fn commit_runs(
     let e = outline::extent_of(o, b, p.turn);
     let k = cells::put_turn(o, b, p.turn, g.resolution, gap, e.w, work);
     if k == 0 {
-        return position::refused(11, 1);
+        return refused(11, 1);
     }
     if work.len() / 3 < k {
-        return position::refused(12, 1);
+        return refused(12, 1);
     }
     let s = Search {
         columns: g.columns as usize,
@@ -50,7 +49,7 @@ fn commit_runs(
         tall: e.h,
     };
     if !spot::fits_at(first, lows, highs, work, s, p.column as usize, p.height) {
-        return position::refused(18, 0);
+        return refused(18, 0);
     }
     let d = Standing {
         turn: p.turn,
@@ -75,13 +74,13 @@ pub fn commit_on(
     first2: &mut [u16],
     lows2: &mut [u16],
     highs2: &mut [u16],
-) -> Placing
+) -> Result<Position, Refusal>
     requires { Tabled first.now lows.now highs.now first2.old lows2.old highs2.old g.width g.resolution g.columns gap q }
     ensures { CommittedOn first.now lows.now highs.now first2.new lows2.new highs2.new o.now g.width g.resolution g.columns gap q p (length work.old) result }
 {
     match cover::order(o, p.turn) {
-        Checked::No(n) => position::refused(n, 1),
-        Checked::Passes(b) => commit_runs(
+        Err(n) => refused(n, 1),
+        Ok(b) => commit_runs(
             g, gap, q, first, lows, highs, o, b, p, work, first2, lows2, highs2,
         ),
     }

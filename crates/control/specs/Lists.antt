@@ -1,13 +1,8 @@
 -- Demand 3 over lists of calls of the C functions vikelodu_open, vikelodu_place, vikelodu_ask and vikelodu_commit, each answer taken
 -- apart as include/vikelodu.h does it; and for vikelodu_lay. Assumes nothing.
-use Rattle.std.specs.Prelude.{◌≡◌, cond, List, ℕ, suc, ◌<◌, eqb}
+use Rattle.std.specs.Prelude.{◌≡◌, cond, List, ℕ, suc, ◌<◌, eqb, Result, Ok, Err}
+use Rattle.defs.specs.declared.Refusal.{Refusal}
 use Rattle.defs.specs.declared.Position.{Position}
-use Rattle.defs.specs.declared.Placing.{Placing}
-use Rattle.defs.specs.declared.Placing.TheVariants.{Placed, Refused}
-use Rattle.defs.specs.declared.Asking.{Asking}
-use Rattle.defs.specs.declared.Committing.{Committing}
-use Rattle.defs.specs.declared.Committing.TheVariants.{Committed, Refused as NotCommitted}
-use Rattle.defs.specs.Computing.Calls.{shown}
 use Rattle.packing.specs.Packed.{first16, second16, third16, fourth16, high32}
 use Rattle.defs.specs.Meaning.Sheet.{sheet_w, sheet_r, sheet_n}
 use Rattle.packing.specs.Steps.{OpenPacked, PlacePacked, AskPacked, CommitPacked, LayPacked}
@@ -17,18 +12,18 @@ use Rattle.claims.specs.Places.{PlaceDemand3}
 use Rattle.claims.specs.Laying.{LaysList}
 
 -- vikelodu_number; vikelodu_turn, vikelodu_column and vikelodu_height, or vikelodu_ordinal
-abbrev pub unpacked : ℕ → Placing
+abbrev pub unpacked : ℕ → Result Position Refusal
 unpacked n =
-    cond (eqb (first16 n) 0) (Placed (record { turn = second16 n; column = third16 n; height = fourth16 n }))
-    (Refused (record { number = first16 n; ordinal = second16 n }))
+    cond (eqb (first16 n) 0) (Ok (record { turn = second16 n; column = third16 n; height = fourth16 n }))
+    (Err (record { number = first16 n; ordinal = second16 n }))
 
 -- the same of an ask
-abbrev pub unpacked_ask : ℕ → Asking
-unpacked_ask n = shown (unpacked n)
+abbrev pub unpacked_ask : ℕ → Result Position Refusal
+unpacked_ask n = unpacked n
 
 -- vikelodu_number; vikelodu_ordinal
-abbrev pub unpacked_commit : ℕ → Committing
-unpacked_commit n = cond (eqb (first16 n) 0) Committed (NotCommitted (record { number = first16 n; ordinal = second16 n }))
+abbrev pub unpacked_commit : ℕ → Result Unit Refusal
+unpacked_commit n = cond (eqb (first16 n) 0) (Ok tt) (Err (record { number = first16 n; ordinal = second16 n }))
 
 -- what each of place, ask and commit is lent and answers
 pub record Packed : Type 0 where

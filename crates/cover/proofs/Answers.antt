@@ -8,18 +8,18 @@ use Prim.Native.Nat.{ℕ, zero, suc, ◌+◌, ◌*◌, ◌-◌, ◌^◌, ◌≤�
 use native.Mathlib.Omega.{arith}
 use lib.Dec.{leb, ltb, eqb}
 use borrow.Author.Tests.{le-leb, lt-leb, lt-ltb, leb-true}
+use Rattle.std.specs.Prelude.{Result, Ok, Err}
+use Rattle.outline.specs.declared.Bounds.{Bounds}
 use Rattle.defs.specs.Meaning.Turn.{turned, extent_x}
 use Rattle.defs.specs.Computing.Test.{ask}
 use Rattle.defs.specs.Computing.Cells.{keeps_orderb, piece_runs, count_runs}
 use Rattle.defs.specs.Computing.Words.{resolutionb, gapb}
 use Rattle.defs.specs.Computing.Calls.{refusal, q7b, q8b, outline_no, cover_answer}
-use Rattle.defs.specs.declared.Covering.TheVariants.{Runs, Refused as NotCovered}
 use Rattle.laws.proofs.Tests.{pos_not_zero}
 use Rattle.laws.proofs.Questions.{question_7}
 use Rattle.geom.proofs.Strip.{lt_or_le}
 use Rattle.geom.proofs.Checks.{keeps_decides, same_run, has_side}
 use Rattle.geom.proofs.OneTurn.{orders_one, cell_one, room_one}
-use Rattle.checks.specs.declared.Checked.{Checked}
 use Rattle.checks.specs.Says.{Says}
 use Rattle.asked.specs.Answers.{order_no}
 use Rattle.cover.specs.Turn.{turn_no}
@@ -34,7 +34,7 @@ module _ (o : List ℕ) (t : ℕ) where
   unfolding order_no turn_no
   turn_alone l = rw (le-leb t 3 l, orders_one o t l) refl
 
-pub said : (o : List ℕ) (a : Checked) {m n : ℕ} → m ≡ n → Says o m a → Says o n a
+pub said : (o : List ℕ) (a : Result Bounds ℕ) {m n : ℕ} → m ≡ n → Says o m a → Says o n a
 said o a e s = subst (λ (n : ℕ). Says o n a) e s
 
 -- the bits of the four turns
@@ -100,25 +100,25 @@ module _ (o : List ℕ) (t R g words : ℕ) where
       go true true true {d' = false} q f h = rw (f q)
       go true true true {d' = true} q f h = rw (f q, h q)
 
-  pub cover_16 : resolutionb R ≡ false → NotCovered (refusal 16 0) ≡ cover_answer o t R g words
+  pub cover_16 : resolutionb R ≡ false → Err (refusal 16 0) ≡ cover_answer o t R g words
   unfolding cover_answer
   cover_16 e = rw e
 
-  pub cover_21 : resolutionb R ≡ true → gapb g ≡ false → NotCovered (refusal 21 0) ≡ cover_answer o t R g words
+  pub cover_21 : resolutionb R ≡ true → gapb g ≡ false → Err (refusal 21 0) ≡ cover_answer o t R g words
   unfolding cover_answer
   cover_21 e x = rw (e, x)
 
-  pub cover_no : {n : ℕ} → resolutionb R ≡ true → gapb g ≡ true → n ≡ turn_no o t → 0 < n → NotCovered (refusal n 1) ≡ cover_answer o t R g words
+  pub cover_no : {n : ℕ} → resolutionb R ≡ true → gapb g ≡ true → n ≡ turn_no o t → 0 < n → Err (refusal n 1) ≡ cover_answer o t R g words
   unfolding cover_answer
   cover_no {n} e x f h = rw (e, x, outline_by_turn, ← f, pos_not_zero n h, pos_not_zero n h)
 
   pub cover_11 : resolutionb R ≡ true → gapb g ≡ true → 0 ≡ turn_no o t → count_runs (piece_runs o t R 0) ≡ 0 →
-      NotCovered (refusal 11 1) ≡ cover_answer o t R g words
+      Err (refusal 11 1) ≡ cover_answer o t R g words
   unfolding cover_answer
   cover_11 e x f h = rw (e, x, outline_by_turn, ← f, h)
 
   pub cover_12 : resolutionb R ≡ true → gapb g ≡ true → 0 ≡ turn_no o t → 0 < count_runs (piece_runs o t R 0) →
-      words < 3 * count_runs (piece_runs o t R g) → NotCovered (refusal 12 1) ≡ cover_answer o t R g words
+      words < 3 * count_runs (piece_runs o t R g) → Err (refusal 12 1) ≡ cover_answer o t R g words
   unfolding cover_answer
   cover_12 e x f h l =
       rw (
@@ -132,7 +132,7 @@ module _ (o : List ℕ) (t R g words : ℕ) where
       )
 
   pub cover_runs : {k : ℕ} → resolutionb R ≡ true → gapb g ≡ true → 0 ≡ turn_no o t → k ≡ count_runs (piece_runs o t R g) → 0 < count_runs (piece_runs o t R 0) → 3 * k ≤ words →
-      Runs k ≡ cover_answer o t R g words
+      Ok k ≡ cover_answer o t R g words
   unfolding cover_answer
   cover_runs {k} e x f q some l =
       rw (

@@ -9,8 +9,8 @@ use native.Mathlib.Nat.{zero-add, mul-le-mul, mul-le-mul_left, div-lt_iff_lt-mul
 use lib.Dec.{eqb}
 use lib.ListN.{length, take, drop}
 use lib.Seq.{sets, sets-eq, take_at}
-use Rattle.defs.specs.declared.Covering.{Covering}
-use Rattle.defs.specs.declared.Covering.TheVariants.{Runs, Refused as NotCovered}
+use Rattle.std.specs.Prelude.{Result, Ok, Err}
+use Rattle.defs.specs.declared.Refusal.{Refusal}
 use Rattle.defs.specs.Meaning.Limits.{most_gap}
 use Rattle.defs.specs.Meaning.Outline.{sides, KeepsOrder}
 use Rattle.defs.specs.Meaning.Turn.{turned, extent_x, extent_y}
@@ -59,28 +59,28 @@ in_frame {o} resolution gap none frame e ew eh = (
   (frame, (ew ∙ ap (extent_x o) (sym e), eh ∙ ap (extent_y o) (sym e))),
 )
 
-pub step_at_lem : {o : List ℕ} {s t R g : ℕ} {out out' : List ℕ} {a : Covering} → s ≡ t → CoverStep o s R g out a out' → CoverStep o t R g out a out'
+pub step_at_lem : {o : List ℕ} {s t R g : ℕ} {out out' : List ℕ} {a : Result ℕ Refusal} → s ≡ t → CoverStep o s R g out a out' → CoverStep o t R g out a out'
 step_at_lem {o} {R = R} {g = g} {out = out} {out' = out'} {a = a} e c = subst (λ (t : ℕ). CoverStep o t R g out a out') e c
 
 words_long : {o : List ℕ} {t R g : ℕ} {out out' : List ℕ} {k : ℕ} → PutRuns o t R g out out' k →
     length (runs_words 0 (piece_runs o t R g)) ≡ 3 * k
 words_long {o} {t} {R} {g} p = runs_length 0 (piece_runs o t R g) ∙ ap (λ (n : ℕ). 3 * n) (sym p.count)
 
-pub refused_step : {o : List ℕ} {t R g : ℕ} {out out' : List ℕ} {a : Covering} {n k : ℕ} → a ≡ NotCovered (refusal n k) →
-    NotCovered (refusal n k) ≡ cover_answer o t R g (length out) → out' ≡ out → CoverStep o t R g out a out'
+pub refused_step : {o : List ℕ} {t R g : ℕ} {out out' : List ℕ} {a : Result ℕ Refusal} {n k : ℕ} → a ≡ Err (refusal n k) →
+    Err (refusal n k) ≡ cover_answer o t R g (length out) → out' ≡ out → CoverStep o t R g out a out'
 unfolding cover_output
 refused_step {o} {t} {R} {g} {out} e f same =
     record { answer = e ∙ f; output = same ∙ ap (cover_output o t R g out) (sym e) }
 
-pub step_11 : {o : List ℕ} {t R g : ℕ} {out out' none none' : List ℕ} {a : Covering} {k : ℕ} → CoverRuns o t R g →
-    PutRuns o t R g none none' k → k ≡ 0 → a ≡ NotCovered (refusal 11 1) → out' ≡ out → CoverStep o t R g out a out'
+pub step_11 : {o : List ℕ} {t R g : ℕ} {out out' none none' : List ℕ} {a : Result ℕ Refusal} {k : ℕ} → CoverRuns o t R g →
+    PutRuns o t R g none none' k → k ≡ 0 → a ≡ Err (refusal 11 1) → out' ≡ out → CoverStep o t R g out a out'
 step_11 {o} {t} {R} {g} {out} c p z e same =
     refused_step e
     (cover_11 o t R g (length out) c.resolution c.gap c.none_no
     (none_without o t R g c.none_no (in_limits c).least (sym p.count ∙ z))) same
 
-pub step_12 : {o : List ℕ} {t R g : ℕ} {out out' none none' : List ℕ} {a : Covering} {k : ℕ} → CoverRuns o t R g →
-    PutRuns o t R g none none' k → (k ≡ 0 → ⊥) → length out / 3 < k → a ≡ NotCovered (refusal 12 1) → out' ≡ out →
+pub step_12 : {o : List ℕ} {t R g : ℕ} {out out' none none' : List ℕ} {a : Result ℕ Refusal} {k : ℕ} → CoverRuns o t R g →
+    PutRuns o t R g none none' k → (k ≡ 0 → ⊥) → length out / 3 < k → a ≡ Err (refusal 12 1) → out' ≡ out →
     CoverStep o t R g out a out'
 step_12 {o} {t} {R} {g} {out} c p z l e same =
     refused_step e
@@ -90,7 +90,7 @@ step_12 {o} {t} {R} {g} {out} c p z l e same =
 
 pub step_runs : {o : List ℕ} {t R g : ℕ} {out out' none none' : List ℕ} {k : ℕ} → CoverRuns o t R g →
     PutRuns o t R g none none' k → (k ≡ 0 → ⊥) → (length out / 3 < k → ⊥) →
-    out' ≡ sets out 0 (runs_words 0 (piece_runs o t R g)) → CoverStep o t R g out (Runs k) out'
+    out' ≡ sets out 0 (runs_words 0 (piece_runs o t R g)) → CoverStep o t R g out (Ok k) out'
 unfolding cover_output
 step_runs {o} {t} {R} {g} {out} {k = k} c p z l q =
     record {

@@ -12,9 +12,8 @@ ghost use Rattle.checks.specs.Says.{Says};
 ghost use Rattle.cover.specs.Turn.{turn_no};
 ghost use Rattle.cover.specs.Written.{CoverRuns, Counted};
 
-use checks::Checked;
-use defs::{Covering, Refusal};
-use outline::{Extent, Frame};
+use defs::{Refusal, refused};
+use outline::{Bounds, Extent, Frame};
 
 // Runs that are kept while they are counted, and their words.
 const KEPT_RUNS: usize = 512;
@@ -33,22 +32,13 @@ fn alone(t: u16) -> u16
 }
 
 // Questions 7 to 10 with turn t alone allowed, 9 of the turn.
-pub fn order(o: &[u16], t: u16) -> Checked
+pub fn order(o: &[u16], t: u16) -> Result<Bounds, u16>
     ensures { Says o.now (turn_no o.now t) result }
 {
     if numbers::MOST_TURN < t {
         return asked::order(o, false, 0);
     }
     asked::order(o, true, alone(t))
-}
-
-fn refused(number: u16, ordinal: u16) -> Covering
-    ensures { result ≡ Covering.Refused (record { number = number; ordinal = ordinal }) }
-{
-    Covering::Refused(Refusal {
-        number: number,
-        ordinal: ordinal,
-    })
 }
 
 // The k runs of an outline at the start of the output: copied where they were kept, and else worked out again.
@@ -69,7 +59,7 @@ fn write_runs(o: &[u16], f: Frame, r: u16, g: u16, w: u16, k: usize, kept: &[u16
 
 // Questions 11 and 12 of an outline that passes 7 to 10 in the frame's turn; then its runs. Up to KEPT_RUNS runs are kept while they are counted,
 // since nothing may be written before 12 is answered.
-fn cover_runs(o: &[u16], f: Frame, e: Extent, r: u16, g: u16, out: &mut [u16]) -> Covering
+fn cover_runs(o: &[u16], f: Frame, e: Extent, r: u16, g: u16, out: &mut [u16]) -> Result<u32, Refusal>
     requires fact_1 { CoverRuns o.now f.turn r g }
     requires fact_2 { FrameOf o.now f }
     requires fact_3 { (e.w ≡ extent_x o.now f.turn) × (e.h ≡ extent_y o.now f.turn) }
@@ -85,11 +75,11 @@ fn cover_runs(o: &[u16], f: Frame, e: Extent, r: u16, g: u16, out: &mut [u16]) -
         return refused(12, 1);
     }
     write_runs(o, f, r, g, w, k, &kept, out);
-    Covering::Runs(k as u32)
+    Ok(k as u32)
 }
 
 // The cover call.
-pub fn cover(o: &[u16], t: u16, r: u16, g: u16, out: &mut [u16]) -> Covering
+pub fn cover(o: &[u16], t: u16, r: u16, g: u16, out: &mut [u16]) -> Result<u32, Refusal>
     ensures { CoverStep o.now t r g out.old result out.new }
 {
     if !limits::resolution_fits(r) {
@@ -99,8 +89,8 @@ pub fn cover(o: &[u16], t: u16, r: u16, g: u16, out: &mut [u16]) -> Covering
         return refused(21, 0);
     }
     match order(o, t) {
-        Checked::No(n) => refused(n, 1),
-        Checked::Passes(b) => {
+        Err(n) => refused(n, 1),
+        Ok(b) => {
             let e = outline::extent_of(o, b, t);
             cover_runs(o, outline::frame_of(o, b, t), e, r, g, out)
         }

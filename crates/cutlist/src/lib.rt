@@ -8,7 +8,6 @@ ghost use Rattle.defs.specs.Computing.Sheets.{piece_of, piece_records, sheet_pie
 ghost use Rattle.words.specs.Put.{Put};
 ghost use Rattle.cutlist.specs.Pieces.{PieceAt, VertexEnds, AllEnd, PieceFits, ChainEnds, PiecesRoom, PieceCounted};
 
-use records::Chain;
 
 // The number of words of the piece of piece record `at`.
 fn piece_words(sheet: &[u8], v: usize, at: usize) -> usize
@@ -18,8 +17,8 @@ fn piece_words(sheet: &[u8], v: usize, at: usize) -> usize
 {
     let piece = reader::visit(sheet, v + at);
     match records::follow(sheet, 0, v, piece.first, numbers::MOST_VERTICES) {
-        Chain::Whole(n) => 2 + 2 * n,
-        Chain::Broken => 0,
+        Some(n) => 2 + 2 * n,
+        None => 0,
     }
 }
 
@@ -48,14 +47,14 @@ fn put_piece(sheet: &[u8], v: usize, at: usize, out: &mut [u16], to: usize) -> u
     let piece = reader::visit(sheet, v + at);
     let mut words = [0u16; numbers::MOST_WORDS];
     match records::gather(sheet, v, piece.first, &mut words) {
-        Chain::Whole(n) => {
+        Some(n) => {
             let e = 2 * n;
             out[to] = n as u16;
             out[to + 1] = piece.second;
             words::copy_in(&words[..e], out, to + 2);
             to + 2 + e
         }
-        Chain::Broken => to,
+        None => to,
     }
 }
 

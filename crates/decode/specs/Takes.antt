@@ -1,13 +1,11 @@
 -- The runs of one chain, taken into the table.
 -- Assumes nothing.
-use Rattle.std.specs.Prelude.{◌≡◌, List, ℕ, ◌+◌, ◌≤◌, ◌<◌, length}
+use Rattle.std.specs.Prelude.{◌≡◌, List, ℕ, ◌+◌, ◌≤◌, ◌<◌, length, Option, Some, None}
 use Rattle.defs.specs.Meaning.Strip.{low_of, high_of}
 use Rattle.defs.specs.Computing.Cells.{Rows}
 use Rattle.tables.specs.Flat.{row_at}
 use Rattle.chains.specs.Form.{rec_at, ChainOf}
 use Rattle.chains.specs.Answers.{NoChain}
-use Rattle.chains.specs.declared.Chain.{Chain}
-use Rattle.chains.specs.declared.Chain.TheVariants.{Whole, Broken}
 
 -- the rows of record r
 abbrev pub run_at : List ℕ → ℕ → Rows
@@ -28,6 +26,6 @@ pub record Taken (s l₀ h₀ l h : List ℕ) (Q c t k : ℕ) : Type 0 where
   pub chain : ChainOf s Q c k
   pub copied : Copied s l₀ h₀ l h c t k
 
-abbrev pub Takes : (s l₀ h₀ l h : List ℕ) (Q c t : ℕ) → Chain → Type 0
-Takes s l₀ h₀ l h Q c t (Whole k) = Taken s l₀ h₀ l h Q c t k
-Takes s l₀ h₀ l h Q c t Broken = NoChain s Q c
+abbrev pub Takes : (s l₀ h₀ l h : List ℕ) (Q c t : ℕ) → Option ℕ → Type 0
+Takes s l₀ h₀ l h Q c t (Some k) = Taken s l₀ h₀ l h Q c t k
+Takes s l₀ h₀ l h Q c t None = NoChain s Q c

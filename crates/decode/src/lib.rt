@@ -6,19 +6,10 @@ ghost use Rattle.striprecords.specs.Free.{Sized};
 ghost use Rattle.decode.specs.Takes.{Room, Takes};
 ghost use Rattle.decode.specs.Decodes.{Decodes};
 
-use chains::{Chain, Mark};
-use form::Size;
 use striprecords::Shape;
 
-// The number of runs.
-#[derive(Clone, Copy)]
-pub enum Decoded {
-    Runs(usize),
-    Ill,
-}
-
 // The chain of column c, its runs taken to the table from t on.
-fn take_runs(s: &[u16], g: Shape, c: usize, t: usize, lows: &mut [u16], highs: &mut [u16]) -> Chain
+fn take_runs(s: &[u16], g: Shape, c: usize, t: usize, lows: &mut [u16], highs: &mut [u16]) -> Option<usize>
     requires fact_1 { Sized s.now g }
     requires fact_2 { (c < g.columns) × (t ≤ g.records) }
     requires fact_3 { Room s.now g.records c t }
@@ -30,26 +21,26 @@ fn take_runs(s: &[u16], g: Shape, c: usize, t: usize, lows: &mut [u16], highs: &
     let mut k: usize = 0;
     while 0 < at {
         if g.records <= t + k {
-            return Chain::Broken;
+            return None;
         }
         match chains::check_run(s, g, c, m, at) {
-            Mark::High(h) => {
+            Some(h) => {
                 lows[t + k] = striprecords::word_of(s, g, at, limits::LOW) as u16;
                 highs[t + k] = h as u16;
                 m = h + 1;
                 k += 1;
                 at = striprecords::word_of(s, g, at, limits::NEXT);
             }
-            Mark::Wrong => {
-                return Chain::Broken;
+            None => {
+                return None;
             }
         }
     }
-    Chain::Whole(k)
+    Some(k)
 }
 
 // All chains.
-fn take_all(s: &[u16], g: Shape, first: &mut [u16], lows: &mut [u16], highs: &mut [u16]) -> Decoded
+fn take_all(s: &[u16], g: Shape, first: &mut [u16], lows: &mut [u16], highs: &mut [u16]) -> Option<usize>
     requires fact_1 { Sized s.now g }
     requires fact_2 { (4097 ≤ length first.old) × (16000 ≤ length lows.old) × (16000 ≤ length highs.old) }
     ensures { Decodes s.now first.new lows.new highs.new result }
@@ -59,35 +50,35 @@ fn take_all(s: &[u16], g: Shape, first: &mut [u16], lows: &mut [u16], highs: &mu
     let mut c: usize = 0;
     while c < g.columns {
         match take_runs(s, g, c, t, lows, highs) {
-            Chain::Whole(k) => {
+            Some(k) => {
                 t += k;
                 c += 1;
                 first[c] = t as u16;
             }
-            Chain::Broken => {
-                return Decoded::Ill;
+            None => {
+                return None;
             }
         }
     }
     match chains::free_chain(s, g) {
-        Chain::Whole(k) => {
+        Some(k) => {
             if t + k == g.records {
-                Decoded::Runs(t)
+                Some(t)
             } else {
-                Decoded::Ill
+                None
             }
         }
-        Chain::Broken => Decoded::Ill,
+        None => None,
     }
 }
 
 // The runs of a well-formed strip, by column then low.
-pub fn decode(s: &[u16], first: &mut [u16], lows: &mut [u16], highs: &mut [u16]) -> Decoded
+pub fn decode(s: &[u16], first: &mut [u16], lows: &mut [u16], highs: &mut [u16]) -> Option<usize>
     requires { (4097 ≤ length first.old) × (16000 ≤ length lows.old) × (16000 ≤ length highs.old) }
     ensures { Decodes s.now first.new lows.new highs.new result }
 {
     match form::measure(s) {
-        Size::Kept(g) => take_all(s, g, first, lows, highs),
-        Size::Ill => Decoded::Ill,
+        Some(g) => take_all(s, g, first, lows, highs),
+        None => None,
     }
 }

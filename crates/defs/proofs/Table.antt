@@ -4,20 +4,11 @@
 use mathlib.Core.Path.{◌≡◌, refl}
 use mathlib.Core.Bool.{true, false}
 use mathlib.Core.List.{List, [], ◌∷◌, ◌++◌}
-use mathlib.Core.Option.{some}
 use Prim.Native.Nat.{ℕ}
 use lib.ListN.{replicate, take}
-use Rattle.defs.specs.declared.Placing.{Placing}
-use Rattle.defs.specs.declared.Placing.TheVariants.{Placed, Refused}
-use Rattle.defs.specs.declared.Opening.TheVariants.{Opened, Refused as NotOpened}
-use Rattle.defs.specs.declared.Covering.TheVariants.{Runs, Refused as NotCovered}
-use Rattle.defs.specs.declared.Asking.TheVariants.{Found, Refused as NotFound}
-use Rattle.defs.specs.declared.Committing.{Committing}
-use Rattle.defs.specs.declared.Committing.TheVariants.{Committed, Refused as NotCommitted}
-use Rattle.defs.specs.declared.Reading.TheVariants.{Read, Refused as NotRead}
-use Rattle.defs.specs.declared.Writing.TheVariants.{Written, Refused as NotWritten}
-use Rattle.defs.specs.declared.Laying.TheVariants.{Laid, Refused as NotLaid}
-use Rattle.defs.specs.declared.Fate.TheVariants.{Placed as FatePlaced}
+use Rattle.std.specs.Prelude.{Some, Result, Ok, Err}
+use Rattle.defs.specs.declared.Position.{Position}
+use Rattle.defs.specs.declared.Refusal.{Refusal}
 use Rattle.defs.specs.Meaning.Outline.{sides}
 use Rattle.defs.specs.Meaning.Turn.{outline_from, turned}
 use Rattle.defs.specs.Meaning.Sheet.{Piece, list_words}
@@ -45,14 +36,14 @@ lent o mask words = record { outline = o; mask = mask; words = words }
 abbrev piece : List ℕ → ℕ → Lent
 piece o mask = lent o mask 30
 
-abbrev at : ℕ → ℕ → ℕ → Placing
-at t c y = Placed (position t c y)
+abbrev at : ℕ → ℕ → ℕ → Result Position Refusal
+at t c y = Ok (position t c y)
 
-abbrev no : ℕ → Placing
-no n = Refused (refusal n 1)
+abbrev no : ℕ → Result Position Refusal
+no n = Err (refusal n 1)
 
 -- a commit on a strip, with 30 work words
-abbrev commit : List ℕ → List ℕ → ℕ → ℕ → ℕ → Committing
+abbrev commit : List ℕ → List ℕ → ℕ → ℕ → ℕ → Result Unit Refusal
 commit s o t c y = commit_answer s o (position t c y) 30
 
 abbrev in_list : List ℕ → Piece
@@ -261,7 +252,7 @@ spur_fits = refl
 -- Strips.
 
 -- Opening: 3, 16, 17, 4 (Q from 1 to 16,000), and the words of one opened strip.
-open_numbers : open_answer 0 1 6 0 31 ∷ open_answer 16001 1 6 0 31 ∷ open_answer 2 401 6 0 31 ∷ open_answer 2 1 4097 0 4106 ∷ open_answer 2 1 6 0 11 ∷ open_answer 2 1 6 0 14 ∷ open_answer 2 1 6 0 64015 ∷ open_answer 2 1 6 0 64011 ∷ open_answer 2 1 6 0 15 ∷ open_answer 0 0 0 0 11 ∷ open_answer 2 0 4097 0 11 ∷ [] ≡ NotOpened (refusal 3 0) ∷ NotOpened (refusal 3 0) ∷ NotOpened (refusal 16 0) ∷ NotOpened (refusal 17 0) ∷ NotOpened (refusal 4 0) ∷ NotOpened (refusal 4 0) ∷ NotOpened (refusal 4 0) ∷ Opened ∷ Opened ∷ NotOpened (refusal 3 0) ∷ NotOpened (refusal 16 0) ∷ []
+open_numbers : open_answer 0 1 6 0 31 ∷ open_answer 16001 1 6 0 31 ∷ open_answer 2 401 6 0 31 ∷ open_answer 2 1 4097 0 4106 ∷ open_answer 2 1 6 0 11 ∷ open_answer 2 1 6 0 14 ∷ open_answer 2 1 6 0 64015 ∷ open_answer 2 1 6 0 64011 ∷ open_answer 2 1 6 0 15 ∷ open_answer 0 0 0 0 11 ∷ open_answer 2 0 4097 0 11 ∷ [] ≡ Err (refusal 3 0) ∷ Err (refusal 3 0) ∷ Err (refusal 16 0) ∷ Err (refusal 17 0) ∷ Err (refusal 4 0) ∷ Err (refusal 4 0) ∷ Err (refusal 4 0) ∷ (Ok tt) ∷ (Ok tt) ∷ Err (refusal 3 0) ∷ Err (refusal 16 0) ∷ []
 unfolding runs
 open_numbers = refl
 
@@ -300,7 +291,7 @@ high_above : well_formedb (6 ∷ 1 ∷ 2 ∷ 2 ∷ 0 ∷ 3 ∷ 0 ∷ 0 ∷ 5 ∷
 unfolding runs
 high_above = refl
 
-no_words : place_answer [] T 1 30 ≡ Refused (refusal 5 0)
+no_words : place_answer [] T 1 30 ≡ Err (refusal 5 0)
 unfolding runs
 no_words = refl
 
@@ -310,18 +301,18 @@ with_T : List ℕ
 with_T = placed_strip (opened_strip 2 1 6 0 35) T (at 0 0 0)
 
 -- Ask answers what place would: U's position, or a number.
-ask_U : ask_answer with_T U 1 30 ∷ ask_answer with_T U 1 8 ∷ ask_answer with_T S 1 30 ∷ ask_answer with_T flat 1 30 ∷ ask_answer [] U 1 30 ∷ [] ≡ Found (position 0 3 0) ∷ NotFound (refusal 12 1) ∷ NotFound (refusal 13 1) ∷ NotFound (refusal 11 1) ∷ NotFound (refusal 5 0) ∷ []
+ask_U : ask_answer with_T U 1 30 ∷ ask_answer with_T U 1 8 ∷ ask_answer with_T S 1 30 ∷ ask_answer with_T flat 1 30 ∷ ask_answer [] U 1 30 ∷ [] ≡ Ok (position 0 3 0) ∷ Err (refusal 12 1) ∷ Err (refusal 13 1) ∷ Err (refusal 11 1) ∷ Err (refusal 5 0) ∷ []
 unfolding runs with_T
 ask_U = refl
 
 -- A commit there is granted. One column to the left it is not free; one to the right, one unit up and at the ends of 16 bits it is off
 -- the strip. 18 has the ordinal 0.
-commit_U : commit with_T U 0 3 0 ∷ commit with_T U 0 2 0 ∷ commit with_T U 0 4 0 ∷ commit with_T U 0 3 1 ∷ commit with_T U 0 65535 0 ∷ commit with_T U 0 3 65535 ∷ [] ≡ Committed ∷ NotCommitted (refusal 18 0) ∷ NotCommitted (refusal 18 0) ∷ NotCommitted (refusal 18 0) ∷ NotCommitted (refusal 18 0) ∷ NotCommitted (refusal 18 0) ∷ []
+commit_U : commit with_T U 0 3 0 ∷ commit with_T U 0 2 0 ∷ commit with_T U 0 4 0 ∷ commit with_T U 0 3 1 ∷ commit with_T U 0 65535 0 ∷ commit with_T U 0 3 65535 ∷ [] ≡ (Ok tt) ∷ Err (refusal 18 0) ∷ Err (refusal 18 0) ∷ Err (refusal 18 0) ∷ Err (refusal 18 0) ∷ Err (refusal 18 0) ∷ []
 unfolding runs with_T
 commit_U = refl
 
 -- A commit need not be the best: T in column 2 or 4 of an empty strip.
-commit_not_best : commit (opened_strip 2 1 7 0 36) T 0 2 0 ∷ commit (opened_strip 2 1 7 0 36) T 0 4 0 ∷ [] ≡ Committed ∷ Committed ∷ []
+commit_not_best : commit (opened_strip 2 1 7 0 36) T 0 2 0 ∷ commit (opened_strip 2 1 7 0 36) T 0 4 0 ∷ [] ≡ (Ok tt) ∷ (Ok tt) ∷ []
 unfolding runs
 commit_not_best = refl
 
@@ -332,17 +323,17 @@ commit_then_place = refl
 
 -- Its questions are of its turn alone, 9 of the turn itself: the tie gets 10 in turn 1 and not in turn 0, and T, with three runs in turn
 -- 0 and two in turn 1, passes 12 in turn 1 where ask with both turns does not.
-commit_alone : commit (opened_strip 10 1 10 0 39) wide_tie 0 0 0 ∷ commit (opened_strip 10 1 10 0 39) wide_tie 1 0 0 ∷ commit (opened_strip 10 1 10 0 39) wide_tie 4 0 0 ∷ commit_answer (opened_strip 3 1 10 0 39) T (position 1 0 0) 6 ∷ commit_answer (opened_strip 3 1 10 0 39) T (position 0 0 0) 8 ∷ [] ≡ Committed ∷ NotCommitted (refusal 10 1) ∷ NotCommitted (refusal 9 1) ∷ Committed ∷ NotCommitted (refusal 12 1) ∷ []
+commit_alone : commit (opened_strip 10 1 10 0 39) wide_tie 0 0 0 ∷ commit (opened_strip 10 1 10 0 39) wide_tie 1 0 0 ∷ commit (opened_strip 10 1 10 0 39) wide_tie 4 0 0 ∷ commit_answer (opened_strip 3 1 10 0 39) T (position 1 0 0) 6 ∷ commit_answer (opened_strip 3 1 10 0 39) T (position 0 0 0) 8 ∷ [] ≡ (Ok tt) ∷ Err (refusal 10 1) ∷ Err (refusal 9 1) ∷ (Ok tt) ∷ Err (refusal 12 1) ∷ []
 unfolding runs
 commit_alone = refl
 
 -- Free is asked of the runs in its own turn: beside S in columns 1 and 2 the bar stands upright in column 0, and does not lie there.
-commit_upright : commit (placed_strip (opened_strip 6 2 4 0 33) S (at 0 1 0)) bar 1 0 0 ∷ commit (placed_strip (opened_strip 6 2 4 0 33) S (at 0 1 0)) bar 0 0 0 ∷ commit (placed_strip (opened_strip 6 2 4 0 33) S (at 0 1 0)) bar 0 0 4 ∷ [] ≡ Committed ∷ NotCommitted (refusal 18 0) ∷ Committed ∷ []
+commit_upright : commit (placed_strip (opened_strip 6 2 4 0 33) S (at 0 1 0)) bar 1 0 0 ∷ commit (placed_strip (opened_strip 6 2 4 0 33) S (at 0 1 0)) bar 0 0 0 ∷ commit (placed_strip (opened_strip 6 2 4 0 33) S (at 0 1 0)) bar 0 0 4 ∷ [] ≡ (Ok tt) ∷ Err (refusal 18 0) ∷ (Ok tt) ∷ []
 unfolding runs
 commit_upright = refl
 
 -- 5, 7, 8 before 9, 11, 12 before 18, 18 before 14, and 14.
-commit_numbers : commit [] T 0 0 0 ∷ commit with_T (16001 ∷ U) 4 0 0 ∷ commit with_T (0 ∷ 0 ∷ 16001 ∷ 0 ∷ 0 ∷ 1 ∷ []) 4 0 0 ∷ commit with_T flat 0 9 9 ∷ commit_answer with_T U (position 0 0 0) 8 ∷ commit (placed_strip (opened_strip 2 1 6 0 23) T (at 0 0 0)) U 0 0 0 ∷ commit (placed_strip (opened_strip 2 1 6 0 23) T (at 0 0 0)) U 0 3 0 ∷ [] ≡ NotCommitted (refusal 5 0) ∷ NotCommitted (refusal 7 1) ∷ NotCommitted (refusal 8 1) ∷ NotCommitted (refusal 11 1) ∷ NotCommitted (refusal 12 1) ∷ NotCommitted (refusal 18 0) ∷ NotCommitted (refusal 14 1) ∷ []
+commit_numbers : commit [] T 0 0 0 ∷ commit with_T (16001 ∷ U) 4 0 0 ∷ commit with_T (0 ∷ 0 ∷ 16001 ∷ 0 ∷ 0 ∷ 1 ∷ []) 4 0 0 ∷ commit with_T flat 0 9 9 ∷ commit_answer with_T U (position 0 0 0) 8 ∷ commit (placed_strip (opened_strip 2 1 6 0 23) T (at 0 0 0)) U 0 0 0 ∷ commit (placed_strip (opened_strip 2 1 6 0 23) T (at 0 0 0)) U 0 3 0 ∷ [] ≡ Err (refusal 5 0) ∷ Err (refusal 7 1) ∷ Err (refusal 8 1) ∷ Err (refusal 11 1) ∷ Err (refusal 12 1) ∷ Err (refusal 18 0) ∷ Err (refusal 14 1) ∷ []
 unfolding runs with_T
 commit_numbers = refl
 
@@ -353,7 +344,7 @@ cover_square : cover_output S 2 2 0 (9 ∷ 9 ∷ 9 ∷ 9 ∷ 9 ∷ 9 ∷ 9 ∷ 9
 unfolding runs
 cover_square = refl
 
-cover_numbers : cover_answer S 2 2 0 6 ∷ cover_answer S 2 2 0 5 ∷ cover_answer S 4 2 0 6 ∷ cover_answer S 4 0 0 6 ∷ cover_answer wide_tie 1 1 0 9 ∷ [] ≡ Runs 2 ∷ NotCovered (refusal 12 1) ∷ NotCovered (refusal 9 1) ∷ NotCovered (refusal 16 0) ∷ NotCovered (refusal 10 1) ∷ []
+cover_numbers : cover_answer S 2 2 0 6 ∷ cover_answer S 2 2 0 5 ∷ cover_answer S 4 2 0 6 ∷ cover_answer S 4 0 0 6 ∷ cover_answer wide_tie 1 1 0 9 ∷ [] ≡ Ok 2 ∷ Err (refusal 12 1) ∷ Err (refusal 9 1) ∷ Err (refusal 16 0) ∷ Err (refusal 10 1) ∷ []
 unfolding runs
 cover_numbers = refl
 
@@ -364,7 +355,7 @@ cover_refused = refl
 -- Sheets.
 
 -- 201 pieces 6.
-pieces_201 : write_answer 10 2 10 (201 ∷ []) 1000 ≡ NotWritten (refusal 6 0)
+pieces_201 : write_answer 10 2 10 (201 ∷ []) 1000 ≡ Err (refusal 6 0)
 unfolding runs
 pieces_201 = refl
 
@@ -374,41 +365,41 @@ unfolding runs
 T_sheet = refl
 
 -- The three squares: the sheet that is written reads back as the list; words past it are kept.
-written_three : read_output (write_output 10 2 10 (list_words three) (replicate 106 7) (Written 106)) (replicate 33 5) (read_answer (write_output 10 2 10 (list_words three) (replicate 106 7) (Written 106)) 33) ≡ list_words three ++ (5 ∷ 5 ∷ [])
+written_three : read_output (write_output 10 2 10 (list_words three) (replicate 106 7) (Ok 106)) (replicate 33 5) (read_answer (write_output 10 2 10 (list_words three) (replicate 106 7) (Ok 106)) 33) ≡ list_words three ++ (5 ∷ 5 ∷ [])
 unfolding runs three
 written_three = refl
 
-read_three : read_answer (sheet_bytes 10 2 10 three) 31 ∷ read_answer (sheet_bytes 10 2 10 three) 30 ∷ read_answer (take 105 (sheet_bytes 10 2 10 three)) 31 ∷ read_answer (take 15 (sheet_bytes 10 2 10 three)) 31 ∷ [] ≡ Read (record { width = 10; resolution = 2; columns = 10 }) ∷ NotRead (refusal 15 0) ∷ NotRead (refusal 2 0) ∷ NotRead (refusal 1 0) ∷ []
+read_three : read_answer (sheet_bytes 10 2 10 three) 31 ∷ read_answer (sheet_bytes 10 2 10 three) 30 ∷ read_answer (take 105 (sheet_bytes 10 2 10 three)) 31 ∷ read_answer (take 15 (sheet_bytes 10 2 10 three)) 31 ∷ [] ≡ Ok (record { width = 10; resolution = 2; columns = 10 }) ∷ Err (refusal 15 0) ∷ Err (refusal 2 0) ∷ Err (refusal 1 0) ∷ []
 unfolding runs three
 read_three = refl
 
 -- Its size, and a buffer one byte short.
-size_three : write_answer 10 2 10 (list_words three) 106 ∷ write_answer 10 2 10 (list_words three) 105 ∷ [] ≡ Written 106 ∷ NotWritten (refusal 15 0) ∷ []
+size_three : write_answer 10 2 10 (list_words three) 106 ∷ write_answer 10 2 10 (list_words three) 105 ∷ [] ≡ Ok 106 ∷ Err (refusal 15 0) ∷ []
 unfolding runs three
 size_three = refl
 
 -- A piece's numbers carry its place, and 11 of piece 1 comes before 7 of piece 2, whose words are missing.
-piece_by_piece : write_answer 10 2 10 (2 ∷ 3 ∷ 1 ∷ flat) 999 ∷ write_answer 10 2 10 (2 ∷ 3 ∷ 1 ∷ T) 999 ∷ [] ≡ NotWritten (refusal 11 1) ∷ NotWritten (refusal 7 2) ∷ []
+piece_by_piece : write_answer 10 2 10 (2 ∷ 3 ∷ 1 ∷ flat) 999 ∷ write_answer 10 2 10 (2 ∷ 3 ∷ 1 ∷ T) 999 ∷ [] ≡ Err (refusal 11 1) ∷ Err (refusal 7 2) ∷ []
 unfolding runs
 piece_by_piece = refl
 
 -- Width, resolution and columns have a number each, in this order, before 6.
-limits_numbers : read_answer (sheet_bytes 0 0 0 []) 1 ∷ read_answer (sheet_bytes 10 401 0 []) 1 ∷ read_answer (sheet_bytes 10 2 4097 []) 1 ∷ [] ≡ NotRead (refusal 3 0) ∷ NotRead (refusal 16 0) ∷ NotRead (refusal 17 0) ∷ []
+limits_numbers : read_answer (sheet_bytes 0 0 0 []) 1 ∷ read_answer (sheet_bytes 10 401 0 []) 1 ∷ read_answer (sheet_bytes 10 2 4097 []) 1 ∷ [] ≡ Err (refusal 3 0) ∷ Err (refusal 16 0) ∷ Err (refusal 17 0) ∷ []
 unfolding runs
 limits_numbers = refl
 
-limits_of_a_list : write_answer 16001 0 0 [] 0 ∷ write_answer 10 0 0 [] 0 ∷ write_answer 10 2 0 [] 0 ∷ write_answer 10 2 10 [] 0 ∷ [] ≡ NotWritten (refusal 3 0) ∷ NotWritten (refusal 16 0) ∷ NotWritten (refusal 17 0) ∷ NotWritten (refusal 6 0) ∷ []
+limits_of_a_list : write_answer 16001 0 0 [] 0 ∷ write_answer 10 0 0 [] 0 ∷ write_answer 10 2 0 [] 0 ∷ write_answer 10 2 10 [] 0 ∷ [] ≡ Err (refusal 3 0) ∷ Err (refusal 16 0) ∷ Err (refusal 17 0) ∷ Err (refusal 6 0) ∷ []
 unfolding runs
 limits_of_a_list = refl
 
 -- Laying.
 
 -- The printed example: its totals, its output, its text.
-lay_three : lay_answer (sheet_bytes 10 2 10 three) 0 39 12 30 ≡ Laid (record { placed = 3; used = 8 })
+lay_three : lay_answer (sheet_bytes 10 2 10 three) 0 39 12 30 ≡ Ok (record { placed = 3; used = 8 })
 unfolding runs three
 lay_three = refl
 
-lay_three_output : lay_output (sheet_bytes 10 2 10 three) 0 (replicate 13 8) 39 30 (Laid (record { placed = 3; used = 8 })) ≡ 0 ∷ 0 ∷ 0 ∷ 0 ∷ 0 ∷ 0 ∷ 0 ∷ 4 ∷ 0 ∷ 0 ∷ 2 ∷ 0 ∷ 8 ∷ []
+lay_three_output : lay_output (sheet_bytes 10 2 10 three) 0 (replicate 13 8) 39 30 (Ok (record { placed = 3; used = 8 })) ≡ 0 ∷ 0 ∷ 0 ∷ 0 ∷ 0 ∷ 0 ∷ 0 ∷ 4 ∷ 0 ∷ 0 ∷ 2 ∷ 0 ∷ 8 ∷ []
 unfolding runs three
 lay_three_output = refl
 
@@ -417,12 +408,12 @@ unfolding runs three
 lay_three_text = refl
 
 -- S-7: used length is that of the outlines, without the gap: with a gap of 1 the third square lies in column 3.
-lay_three_gap : lay_answer (sheet_bytes 10 2 10 three) 1 51 12 30 ≡ Laid (record { placed = 3; used = 10 })
+lay_three_gap : lay_answer (sheet_bytes 10 2 10 three) 1 51 12 30 ≡ Ok (record { placed = 3; used = 10 })
 unfolding runs three
 lay_three_gap = refl
 
 -- "of 32 bits": a piece that ends with the last column of the longest strip, as it is counted and as it is printed.
-longest_used : used_in 400 (in_list (0 ∷ 0 ∷ 400 ∷ 0 ∷ 0 ∷ 1 ∷ []) ∷ []) (record { ordinal = 1; fate = FatePlaced (position 0 4095 0) } ∷ []) ≡ 1638400
+longest_used : used_in 400 (in_list (0 ∷ 0 ∷ 400 ∷ 0 ∷ 0 ∷ 1 ∷ []) ∷ []) (record { ordinal = 1; fate = Ok (position 0 4095 0) } ∷ []) ≡ 1638400
 unfolding runs
 longest_used = refl
 
@@ -436,7 +427,7 @@ unfolding runs three
 lay_fates = refl
 
 -- 15, 4 and 17 of the job.
-lay_numbers : lay_answer (sheet_bytes 10 2 10 three) 0 39 11 30 ∷ lay_answer (sheet_bytes 10 2 10 three) 0 38 12 30 ∷ lay_answer (sheet_bytes 10 2 0 []) 0 38 12 30 ∷ [] ≡ NotLaid (refusal 15 0) ∷ NotLaid (refusal 4 0) ∷ NotLaid (refusal 17 0) ∷ []
+lay_numbers : lay_answer (sheet_bytes 10 2 10 three) 0 39 11 30 ∷ lay_answer (sheet_bytes 10 2 10 three) 0 38 12 30 ∷ lay_answer (sheet_bytes 10 2 0 []) 0 38 12 30 ∷ [] ≡ Err (refusal 15 0) ∷ Err (refusal 4 0) ∷ Err (refusal 17 0) ∷ []
 unfolding runs three
 lay_numbers = refl
 
@@ -517,20 +508,20 @@ tight_gap_strip = refl
 
 -- A gap of 1 is kept to the piece on the right and above as well: beside S in columns 2 and 3, height 5, another S must end before column
 -- 1 or begin after column 4, or end below row 4 or begin above row 9.
-ask_gap : ask_answer (placed_strip (opened_strip 10 2 10 1 175) S (at 0 0 0)) S 1 30 ≡ Found (position 0 0 5)
+ask_gap : ask_answer (placed_strip (opened_strip 10 2 10 1 175) S (at 0 0 0)) S 1 30 ≡ Ok (position 0 0 5)
 unfolding runs
 ask_gap = refl
 
-commit_gap : commit (placed_strip (opened_strip 20 2 10 1 175) S (at 0 2 5)) S 0 1 5 ∷ commit (placed_strip (opened_strip 20 2 10 1 175) S (at 0 2 5)) S 0 4 5 ∷ commit (placed_strip (opened_strip 20 2 10 1 175) S (at 0 2 5)) S 0 5 5 ∷ commit (placed_strip (opened_strip 20 2 10 1 175) S (at 0 2 5)) S 0 2 1 ∷ commit (placed_strip (opened_strip 20 2 10 1 175) S (at 0 2 5)) S 0 2 0 ∷ commit (placed_strip (opened_strip 20 2 10 1 175) S (at 0 2 5)) S 0 2 9 ∷ commit (placed_strip (opened_strip 20 2 10 1 175) S (at 0 2 5)) S 0 2 10 ∷ [] ≡ NotCommitted (refusal 18 0) ∷ NotCommitted (refusal 18 0) ∷ Committed ∷ NotCommitted (refusal 18 0) ∷ Committed ∷ NotCommitted (refusal 18 0) ∷ Committed ∷ []
+commit_gap : commit (placed_strip (opened_strip 20 2 10 1 175) S (at 0 2 5)) S 0 1 5 ∷ commit (placed_strip (opened_strip 20 2 10 1 175) S (at 0 2 5)) S 0 4 5 ∷ commit (placed_strip (opened_strip 20 2 10 1 175) S (at 0 2 5)) S 0 5 5 ∷ commit (placed_strip (opened_strip 20 2 10 1 175) S (at 0 2 5)) S 0 2 1 ∷ commit (placed_strip (opened_strip 20 2 10 1 175) S (at 0 2 5)) S 0 2 0 ∷ commit (placed_strip (opened_strip 20 2 10 1 175) S (at 0 2 5)) S 0 2 9 ∷ commit (placed_strip (opened_strip 20 2 10 1 175) S (at 0 2 5)) S 0 2 10 ∷ [] ≡ Err (refusal 18 0) ∷ Err (refusal 18 0) ∷ (Ok tt) ∷ Err (refusal 18 0) ∷ (Ok tt) ∷ Err (refusal 18 0) ∷ (Ok tt) ∷ []
 unfolding runs
 commit_gap = refl
 
 -- 21: after 16 and 17, before 4; a strip with a gap over 400 is not well formed.
-open_21 : open_answer 2 1 6 400 15 ∷ open_answer 2 1 6 401 15 ∷ open_answer 2 401 6 401 15 ∷ open_answer 2 1 4097 401 15 ∷ open_answer 2 1 6 401 3 ∷ [] ≡ Opened ∷ NotOpened (refusal 21 0) ∷ NotOpened (refusal 16 0) ∷ NotOpened (refusal 17 0) ∷ NotOpened (refusal 21 0) ∷ []
+open_21 : open_answer 2 1 6 400 15 ∷ open_answer 2 1 6 401 15 ∷ open_answer 2 401 6 401 15 ∷ open_answer 2 1 4097 401 15 ∷ open_answer 2 1 6 401 3 ∷ [] ≡ (Ok tt) ∷ Err (refusal 21 0) ∷ Err (refusal 16 0) ∷ Err (refusal 17 0) ∷ Err (refusal 21 0) ∷ []
 unfolding runs
 open_21 = refl
 
-cover_21 : cover_answer S 0 2 401 30 ∷ cover_answer S 0 401 401 30 ∷ cover_answer flat 4 2 401 30 ∷ cover_answer S 0 2 3 12 ∷ cover_answer S 0 2 3 11 ∷ [] ≡ NotCovered (refusal 21 0) ∷ NotCovered (refusal 16 0) ∷ NotCovered (refusal 21 0) ∷ Runs 4 ∷ NotCovered (refusal 12 1) ∷ []
+cover_21 : cover_answer S 0 2 401 30 ∷ cover_answer S 0 401 401 30 ∷ cover_answer flat 4 2 401 30 ∷ cover_answer S 0 2 3 12 ∷ cover_answer S 0 2 3 11 ∷ [] ≡ Err (refusal 21 0) ∷ Err (refusal 16 0) ∷ Err (refusal 21 0) ∷ Ok 4 ∷ Err (refusal 12 1) ∷ []
 unfolding runs
 cover_21 = refl
 
@@ -538,7 +529,7 @@ gap_401 : well_formedb (9 ∷ 1 ∷ 2 ∷ 2 ∷ 401 ∷ 3 ∷ 0 ∷ 0 ∷ 5 ∷ 
 unfolding runs
 gap_401 = refl
 
-lay_21 : lay_answer (sheet_bytes 10 2 10 three) 401 39 12 30 ∷ lay_answer (sheet_bytes 10 2 10 three) 401 3 12 30 ∷ lay_answer (sheet_bytes 10 2 0 []) 401 39 12 30 ∷ [] ≡ NotLaid (refusal 21 0) ∷ NotLaid (refusal 21 0) ∷ NotLaid (refusal 17 0) ∷ []
+lay_21 : lay_answer (sheet_bytes 10 2 10 three) 401 39 12 30 ∷ lay_answer (sheet_bytes 10 2 10 three) 401 3 12 30 ∷ lay_answer (sheet_bytes 10 2 0 []) 401 39 12 30 ∷ [] ≡ Err (refusal 21 0) ∷ Err (refusal 21 0) ∷ Err (refusal 17 0) ∷ []
 unfolding runs three
 lay_21 = refl
 
@@ -557,7 +548,7 @@ third_square_walk : turn_walk 10 2 10 0 ((0 to 8 ∷ []) ∷ (0 to 8 ∷ []) ∷
 unfolding runs
 third_square_walk = refl
 
-third_square_end : walk_end 10 2 10 0 ((0 to 8 ∷ []) ∷ (0 to 8 ∷ []) ∷ replicate 8 []) S 0 ≡ some (position 0 2 0)
+third_square_end : walk_end 10 2 10 0 ((0 to 8 ∷ []) ∷ (0 to 8 ∷ []) ∷ replicate 8 []) S 0 ≡ Some (position 0 2 0)
 unfolding runs
 third_square_end = refl
 

@@ -1,7 +1,6 @@
 // Program `draw`: lays the sheet on standard input, with the gap in front of it or without one, and prints a picture of the strip in SVG.
 #![tactic(auto)]
 
-use defs::Laying;
 use std::io;
 
 // The lay call, of which only the answer is used here.

@@ -1,7 +1,7 @@
 // A picture of a job, in SVG, as bytes of a buffer: the strip, and on it each placed piece.
 #![tactic(auto)]
 
-use defs::{Figures, Laying, Reading, Totals};
+use defs::{Figures, Refusal, Totals};
 use frame::Scene;
 
 // Every picture fits: 200 pieces of 64 vertices of 17 bytes, in an outline and in its gap, 64 stretches of 34 bytes and 232 bytes more
@@ -18,10 +18,10 @@ fn put_picture(out: &mut [u8], s: Scene, list: &[u16], entries: &[u16], work: &m
 }
 
 // What was read. A sheet that is laid is not refused.
-fn figures_of(r: Reading) -> Figures {
+fn figures_of(r: Result<Figures, Refusal>) -> Figures {
     match r {
-        Reading::Read(f) => f,
-        Reading::Refused(_) => Figures {
+        Ok(f) => f,
+        Err(_) => Figures {
             width: 0,
             resolution: 0,
             columns: 0,
@@ -59,13 +59,13 @@ fn draw_laid(
 pub fn draw_answer(
     sheet: &[u8],
     gap: u16,
-    a: Laying,
+    a: Result<Totals, Refusal>,
     entries: &[u16],
     work: &mut [u16],
     out: &mut [u8],
 ) -> usize {
     match a {
-        Laying::Laid(t) => draw_laid(sheet, gap, t, entries, work, out),
-        Laying::Refused(r) => frame::put_refused(out, r),
+        Ok(t) => draw_laid(sheet, gap, t, entries, work, out),
+        Err(r) => frame::put_refused(out, r),
     }
 }

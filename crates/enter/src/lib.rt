@@ -8,13 +8,6 @@ ghost use Rattle.enter.specs.Enters.{Enters};
 
 use columnentry::{Built, Entry};
 
-// How many runs the new table has, or that they are more than it may have.
-#[derive(Clone, Copy)]
-pub enum Entering {
-    Runs(usize),
-    Full,
-}
-
 // Enters the piece: the arrays first2, lows2 and highs2 are the new table, or the part of it that has too many runs. Their room is for
 // 16000 runs of the columns before, 8000 of the column at work, which do not touch in 16000 rows, and one more that is joined. Only the
 // total after a column is held against the most, so that a peak on the way does not refuse.
@@ -27,7 +20,7 @@ pub fn enter(
     first2: &mut [u16],
     lows2: &mut [u16],
     highs2: &mut [u16],
-) -> Entering
+) -> Option<usize>
     requires fact_1 { Old first.now lows.now highs.now g }
     requires fact_2 { Fits runs.now g }
     requires fact_3 { (4097 ≤ length first2.old) × (24001 ≤ length lows2.old) × (24001 ≤ length highs2.old) }
@@ -45,8 +38,8 @@ pub fn enter(
         k += 1;
         first2[k] = t as u16;
         if most < t {
-            return Entering::Full;
+            return None;
         }
     }
-    Entering::Runs(b.runs)
+    Some(b.runs)
 }

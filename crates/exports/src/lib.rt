@@ -6,7 +6,6 @@ ghost use Rattle.defs.specs.Computing.Words.{well_formedb};
 ghost use Rattle.exports.specs.Read.{vertex_answer};
 ghost use Rattle.exports.specs.Strips.{rewrite_answer, rewritten, decoded_answer};
 
-use decode::Decoded;
 use defs::Figures;
 
 // Question 5.
@@ -26,8 +25,8 @@ pub extern "C" fn vikelodu_decoded(strip: &[u16]) -> u32
     let mut lows = [0u16; limits::MOST_RECORDS];
     let mut highs = [0u16; limits::MOST_RECORDS];
     match decode::decode(strip, &mut first, &mut lows, &mut highs) {
-        Decoded::Runs(t) => t as u32,
-        Decoded::Ill => 4294967295,
+        Some(t) => t as u32,
+        None => 4294967295,
     }
 }
 
@@ -41,7 +40,7 @@ pub extern "C" fn vikelodu_rewrite(strip: &mut [u16]) -> u64
     let mut lows = [0u16; limits::MOST_RECORDS];
     let mut highs = [0u16; limits::MOST_RECORDS];
     match decode::decode(strip, &mut first, &mut lows, &mut highs) {
-        Decoded::Runs(t) => {
+        Some(t) => {
             let g = Figures {
                 width: strip[limits::WIDTH],
                 resolution: strip[limits::RESOLUTION],
@@ -51,7 +50,7 @@ pub extern "C" fn vikelodu_rewrite(strip: &mut [u16]) -> u64
             encode::encode(strip, g, gap, &first, &lows, &highs, t);
             0
         }
-        Decoded::Ill => 5,
+        None => 5,
     }
 }
 

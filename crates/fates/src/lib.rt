@@ -9,7 +9,7 @@ ghost use Rattle.defs.specs.Computing.Lay.{fate_of};
 ghost use Rattle.outline.specs.Vertex.{Lent, BoundsOf};
 ghost use Rattle.fates.specs.Fates.{edge_of, lower_by, tallied, Few};
 
-use defs::{Entry, Fate, Placing};
+use defs::{Entry, Position, Refusal};
 use outline::Bounds;
 
 // The ordinal of the next piece, the pieces placed and the length used so far, whether the second table is current, and before which right
@@ -23,12 +23,12 @@ pub struct Tally {
     pub lower: u32,
 }
 
-pub fn fate_of(a: Placing) -> Fate
+pub fn fate_of(a: Result<Position, Refusal>) -> Result<Position, u16>
     ensures { result ≡ fate_of a }
 {
     match a {
-        Placing::Placed(p) => Fate::Placed(p),
-        Placing::Refused(r) => Fate::Refused(r.number),
+        Ok(p) => Ok(p),
+        Err(r) => Err(r.number),
     }
 }
 
@@ -40,53 +40,53 @@ pub fn put_entry(e: Entry, out: &mut [u16])
     let at = numbers::ENTRY_WORDS * (e.ordinal as usize - 1);
     let f = e.fate;
     match f {
-        Fate::Placed(p) => freerecords::put_four(out, at, 0, p.turn, p.column, p.height),
-        Fate::Refused(n) => freerecords::put_four(out, at, n, 0, 0, 0),
+        Ok(p) => freerecords::put_four(out, at, 0, p.turn, p.column, p.height),
+        Err(n) => freerecords::put_four(out, at, n, 0, 0, 0),
     }
 }
 
 // The right edge of a piece that is placed, else 0.
-pub fn right_of(o: &[u16], b: Bounds, r: u16, a: Placing) -> u32
+pub fn right_of(o: &[u16], b: Bounds, r: u16, a: Result<Position, Refusal>) -> u32
     requires fact_1 { Lent o.now }
     requires fact_2 { BoundsOf o.now b }
-    requires fact_3 { ((p : Position) → a ≡ Placing.Placed p → p.turn ≤ 3) }
+    requires fact_3 { ((p : Position) → a ≡ Ok p → p.turn ≤ 3) }
     ensures { result ≡ edge_of r o.now a }
 {
     match a {
-        Placing::Placed(p) => {
+        Ok(p) => {
             let e = outline::extent_of(o, b, p.turn);
             ranks::right_edge(p.column, e.w, r)
         }
-        Placing::Refused(f) => 0,
+        Err(f) => 0,
     }
 }
 
 // Before which right edge a copy has no free position, after an answer: 13 says that there is none at all.
-fn lower_of(a: Placing, right: u32) -> u32
+fn lower_of(a: Result<Position, Refusal>, right: u32) -> u32
     ensures { result ≡ lower_by a right }
 {
     match a {
-        Placing::Placed(p) => right,
-        Placing::Refused(r) => { if r.number == 13 { ranks::NO_EDGE } else { 0 } }
+        Ok(p) => right,
+        Err(r) => { if r.number == 13 { ranks::NO_EDGE } else { 0 } }
     }
 }
 
 // The tally after an answer, the right edge of the piece with it.
-pub fn counted(t: Tally, a: Placing, right: u32) -> Tally
+pub fn counted(t: Tally, a: Result<Position, Refusal>, right: u32) -> Tally
     requires { Few t }
     ensures { result ≡ tallied t a right }
 {
     let used = numbers::greater(t.used as u64, right as u64) as u32;
     let lower = lower_of(a, right);
     match a {
-        Placing::Placed(p) => Tally {
+        Ok(p) => Tally {
             ordinal: t.ordinal + 1,
             placed: t.placed + 1,
             used,
             second: !t.second,
             lower,
         },
-        Placing::Refused(r) => Tally {
+        Err(r) => Tally {
             ordinal: t.ordinal + 1,
             placed: t.placed,
             used,

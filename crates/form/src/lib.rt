@@ -7,31 +7,24 @@ ghost use Rattle.defs.specs.Computing.Words.{well_formedb};
 ghost use Rattle.striprecords.specs.Free.{Sized};
 ghost use Rattle.form.specs.Answers.{Sizes};
 
-use chains::Chain;
 use striprecords::Shape;
 
-#[derive(Clone, Copy)]
-pub enum Size {
-    Kept(Shape),
-    Ill,
-}
-
 // Are length and limits kept?
-pub fn measure(s: &[u16]) -> Size
+pub fn measure(s: &[u16]) -> Option<Shape>
     ensures { Sizes s.now result }
 {
     let l = s.len();
     if l < limits::LEADING_WORDS {
-        return Size::Ill;
+        return None;
     }
     let n = s[limits::COLUMNS];
-    if limits::figures_no(s[limits::WIDTH], s[limits::RESOLUTION], n, s[limits::GAP]) != 0 {
-        return Size::Ill;
+    if limits::figures(s[limits::WIDTH], s[limits::RESOLUTION], n, s[limits::GAP]).is_err() {
+        return None;
     }
     if !limits::length_fits(n, l) {
-        return Size::Ill;
+        return None;
     }
-    Size::Kept(Shape {
+    Some(Shape {
         width: striprecords::word(s, limits::WIDTH),
         columns: striprecords::word(s, limits::COLUMNS),
         records: limits::records_of(n, l),
@@ -47,18 +40,18 @@ fn whole(s: &[u16], g: Shape) -> bool
     let mut c: usize = 0;
     while c < g.columns {
         match chains::column_chain(s, g, c) {
-            Chain::Whole(k) => {
+            Some(k) => {
                 total += k;
                 c += 1;
             }
-            Chain::Broken => {
+            None => {
                 return false;
             }
         }
     }
     match chains::free_chain(s, g) {
-        Chain::Whole(k) => total + k == g.records,
-        Chain::Broken => false,
+        Some(k) => total + k == g.records,
+        None => false,
     }
 }
 
@@ -67,7 +60,7 @@ pub fn well_formed(s: &[u16]) -> bool
     ensures { result ≡ well_formedb s.now }
 {
     match measure(s) {
-        Size::Kept(g) => whole(s, g),
-        Size::Ill => false,
+        Some(g) => whole(s, g),
+        None => false,
     }
 }

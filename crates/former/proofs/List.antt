@@ -7,8 +7,8 @@ use mathlib.Core.List.{List}
 use Prim.Native.Nat.{ℕ, ◌≤◌}
 use native.Mathlib.Omega.{arith}
 use lib.ListN.{length}
+use Rattle.std.specs.Prelude.{Ok}
 use Rattle.defs.specs.declared.Position.{Position}
-use Rattle.defs.specs.declared.Placing.TheVariants.{Placed}
 use Rattle.defs.specs.Meaning.Turn.{turned}
 use Rattle.defs.specs.Meaning.Placing.{cells_at, Best}
 use Rattle.defs.specs.Meaning.Question.{Asked7to12, Question13}
@@ -22,7 +22,6 @@ use Rattle.claims.proofs.Invariant.{kept}
 use Rattle.claims.proofs.KeptStrip.{resolution_least}
 use Rattle.claims.proofs.Passing.{asked}
 use Rattle.claims.proofs.PlaceAnswers.{found_there}
-use Rattle.claims.proofs.AskCommit.{shown_found}
 use Rattle.claims.proofs.Whole.{step_of, puts_entry, demand3}
 use Rattle.former.specs.Former.{former_cells, FormerFits, FormerBest}
 use Rattle.former.specs.List.{FormerTaken, FormerList, NoGap}
@@ -75,7 +74,7 @@ module _ {W R N : ℕ} {x : Calls} (t : Trace W R N 0 x) where
         )
 
   -- an outline for which place finds a position, so that an ask shows it, has passed
-  best_found : (m : ℕ) (o : List ℕ) (mask words : ℕ) (p : Position) → m ≤ x.count → place_answer (x.strip m) o mask words ≡ Placed p →
+  best_found : (m : ℕ) (o : List ℕ) (mask words : ℕ) (p : Position) → m ≤ x.count → place_answer (x.strip m) o mask words ≡ Ok p →
       Best W R N 0 (Taken x W R N 0 m) o mask p → FormerBest W R N (FormerTaken x R m) o mask p
   best_found m o mask words p h e =
       best_then m h o mask words (asked o mask R 0 words (found_there (kept t m h) o mask words p e).passes) p
@@ -92,7 +91,7 @@ module _ {W R N : ℕ} {x : Calls} (t : Trace W R N 0 x) where
         best_ask =
             λ m c p h e.
             best_found m c.outline c.mask _ p (omega (arith, h.0))
-            (shown_found _ p (sym e ∙ (step_of t m (ask_call c) h.0 h.1).answer)) ((demand3 t).best_ask m c p h e);
+            (sym (step_of t m (ask_call c) h.0 h.1).answer ∙ e) ((demand3 t).best_ask m c p h e);
         no_position =
             λ m c h e.
             let none = ((demand3 t).no_position m c h).0 e in

@@ -1,8 +1,6 @@
 -- "With g = 0 every position is the former one.": of one outline, and of whole lists of calls. Assumes nothing.
-use Rattle.std.specs.Prelude.{◌≡◌, ◌↔◌, List, ℕ, ◌≤◌, ◌<◌}
+use Rattle.std.specs.Prelude.{◌≡◌, ◌↔◌, List, ℕ, ◌≤◌, ◌<◌, Ok}
 use Rattle.defs.specs.declared.Position.{Position}
-use Rattle.defs.specs.declared.Placing.TheVariants.{Placed}
-use Rattle.defs.specs.declared.Asking.TheVariants.{Found}
 use Rattle.defs.specs.Answer.{number_of}
 use Rattle.defs.specs.Meaning.Outline.{sides}
 use Rattle.defs.specs.Meaning.Turn.{turned}
@@ -22,10 +20,10 @@ FormerTaken x R m = FormerOccupied R (Lies x.call m)
 pub record FormerList (W R N : ℕ) (x : Calls) : Type 0 where
   pub taken : (m i j : ℕ) → m ≤ x.count → Taken x W R N 0 m i j ↔ FormerTaken x R m i j
   pub best_place :
-      (m : ℕ) (c : PlaceCall) (p : Position) → Place x m c → c.answer ≡ Placed p →
+      (m : ℕ) (c : PlaceCall) (p : Position) → Place x m c → c.answer ≡ Ok p →
       FormerBest W R N (FormerTaken x R m) c.outline c.mask p
   pub best_ask :
-      (m : ℕ) (c : AskCall) (p : Position) → Ask x m c → c.answer ≡ Found p →
+      (m : ℕ) (c : AskCall) (p : Position) → Ask x m c → c.answer ≡ Ok p →
       FormerBest W R N (FormerTaken x R m) c.outline c.mask p
   pub no_position :
       (m : ℕ) (c : PlaceCall) → Place x m c → number_of c.answer ≡ 13 →

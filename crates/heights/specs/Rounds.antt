@@ -1,10 +1,8 @@
 -- One run that rises until it is free, and the way round the piece's runs.
 -- Assumes nothing.
-use Rattle.std.specs.Prelude.{◌≡◌, List, ℕ, ◌+◌, ◌≤◌, ◌<◌}
+use Rattle.std.specs.Prelude.{◌≡◌, List, ℕ, ◌+◌, ◌≤◌, ◌<◌, Result, Ok, Err}
 use Rattle.tries.specs.Tries.{ClearTo, Lands}
 use Rattle.walk.specs.Free.{Least, NoHeight}
-use Rattle.heights.specs.declared.Round.{Round}
-use Rattle.heights.specs.declared.Round.TheVariants.{Up, Full}
 
 -- a jump of the rows lo to hi - 1 of column c goes over the height u
 pub record Skipped (f l h : List ℕ) (c lo hi u : ℕ) : Type 0 where
@@ -35,6 +33,6 @@ pub record Stopped (f l h r : List ℕ) (N W p t c k : ℕ) : Type 0 where
   pub none : NoHeight f l h r N W p t c
   pub among : k < p
 
-abbrev pub Rounded : (f l h r : List ℕ) (N W p t c : ℕ) → Round → Type 0
-Rounded f l h r N W p t c (Up y) = Least f l h r N W p t c y
-Rounded f l h r N W p t c (Full k) = Stopped f l h r N W p t c k
+abbrev pub Rounded : (f l h r : List ℕ) (N W p t c : ℕ) → Result ℕ ℕ → Type 0
+Rounded f l h r N W p t c (Ok y) = Least f l h r N W p t c y
+Rounded f l h r N W p t c (Err k) = Stopped f l h r N W p t c k

@@ -10,13 +10,6 @@ ghost use Rattle.heights.specs.Rounds.{Settled, NextRun, RunsLeft, Rounded};
 
 use walk::Search;
 
-// What a column says: its least free height, or the run that found none.
-#[derive(Clone, Copy)]
-pub enum Round {
-    Up(u16),
-    Full(usize),
-}
-
 // The least height from y on at which the rows lo to hi - 1 are free in column c.
 fn settle(first: &[u16], lows: &[u16], highs: &[u16], c: usize, lo: u16, hi: u16, y: u16) -> u16
     requires fact_1 { Column first.now lows.now highs.now c }
@@ -70,7 +63,7 @@ pub fn round_column(
     s: Search,
     c: usize,
     start: usize,
-) -> Round
+) -> Result<u16, usize>
     requires fact_1 { Frame first.now lows.now highs.now runs.now s.columns s.width s.runs s.wide s.tall }
     requires fact_2 { (c + s.wide ≤ s.columns) × (s.tall ≤ s.width) × (s.width ≤ 16000) × (start ≤ s.runs - 1) }
     ensures { Rounded first.now lows.now highs.now runs.now s.columns s.width s.runs s.tall c result }
@@ -86,11 +79,11 @@ pub fn round_column(
         let col = runs[3 * k] as usize;
         let z = settle(here, lows, highs, col, runs[3 * k + 1], runs[3 * k + 2], y);
         if top < z {
-            return Round::Full(k);
+            return Err(k);
         }
         left = runs_left(y, z, p, left);
         k = next_run(k, p);
         y = z;
     }
-    Round::Up(y)
+    Ok(y)
 }

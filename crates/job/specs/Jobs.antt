@@ -1,8 +1,7 @@
 -- What laying a job needs and leaves. Assumes nothing.
-use Rattle.std.specs.Prelude.{◌≡◌, true, false, List, [], ℕ, ◌*◌, ◌≤◌, length, replicate}
+use Rattle.std.specs.Prelude.{◌≡◌, true, false, List, [], ℕ, ◌*◌, ◌≤◌, length, replicate, Ok}
 use Rattle.std.proofs.lemmas.List.Edits.{sets}
 use Rattle.defs.specs.declared.Totals.{Totals}
-use Rattle.defs.specs.declared.Laying.TheVariants.{Laid}
 use Rattle.defs.specs.Meaning.Limits.{most_gap}
 use Rattle.defs.specs.Meaning.Strip.{Limits}
 use Rattle.defs.specs.Meaning.Sheet.{sheet_w, sheet_r, sheet_n}
@@ -41,4 +40,4 @@ pub record JobDone (b : List ℕ) (g : ℕ) (s out : List ℕ) (words : ℕ) (t 
   pub placed : t.placed ≡ placed_in (lay_entries b g (length s) words)
   pub used : t.used ≡ used_in (sheet_r b) (sheet_pieces b) (lay_entries b g (length s) words)
   pub output : out' ≡ sets out 0 (entries_words (lay_entries b g (length s) words))
-  pub strip : LayLeaves b g s words (Laid t) s'
+  pub strip : LayLeaves b g s words (Ok t) s'

@@ -1,7 +1,8 @@
 -- The retrace call's questions, in the manner of claims/specs/Numbers: 7 and 8, then the first two edges that share a stretch, or 0 and 0
 -- where nothing is drawn twice. Assumes nothing.
-use Rattle.std.specs.Prelude.{◌≡◌, ◌⊎◌, List, [], ◌∷◌, ℕ, ◌+◌}
-use Rattle.defs.specs.declared.Retracing.{Retracing}
+use Rattle.std.specs.Prelude.{◌≡◌, ◌⊎◌, List, [], ◌∷◌, ℕ, ◌+◌, Option, Result}
+use Rattle.defs.specs.declared.EdgePair.{EdgePair}
+use Rattle.defs.specs.declared.Refusal.{Refusal}
 use Rattle.defs.specs.Answer.{retracing}
 use Rattle.defs.specs.Meaning.Question.{Question7, Question8}
 use Rattle.strokes.specs.Stroke.{DrawnOnce, FirstShared}
@@ -16,4 +17,4 @@ retrace_questions o =
     ((values ≡ 0 ∷ 0 ∷ []) × DrawnOnce o) ⊎ ((i : ℕ) × (j : ℕ) × (values ≡ (i + 1) ∷ (j + 1) ∷ []) × FirstShared o i j)
 
 unfoldable pub Retrace_asks : Type 0
-Retrace_asks = (o : List ℕ) (a : Retracing) → RetraceStep o a → Answers (retrace_questions o) (retracing a)
+Retrace_asks = (o : List ℕ) (a : Result (Option EdgePair) Refusal) → RetraceStep o a → Answers (retrace_questions o) (retracing a)

@@ -1,9 +1,8 @@
 -- The knife over a whole list of calls: where it follows an edge of a piece, placed or committed, that bounds the piece's inside, it is
 -- never in the interior of another such piece. Where an outline draws nothing twice, each of its edges bounds its inside. Assumes nothing.
-use Rattle.std.specs.Prelude.{◌≢◌, ◌⊎◌, List, ℕ, ◌*◌, ◌<◌}
+use Rattle.std.specs.Prelude.{◌≢◌, ◌⊎◌, List, ℕ, ◌*◌, ◌<◌, Ok}
 use Rattle.defs.specs.declared.Position.{Position}
 use Rattle.defs.specs.declared.Totals.{Totals}
-use Rattle.defs.specs.declared.Laying.TheVariants.{Laid}
 use Rattle.defs.specs.Meaning.Outline.{Edge, Inside, sides, edge_at}
 use Rattle.defs.specs.Meaning.Placing.{moved}
 use Rattle.defs.specs.Meaning.Sheet.{sheet_r}
@@ -56,4 +55,4 @@ List_knife_safe = (W R N g : ℕ) (x : Calls) → Trace W R N g x → KnifeSafe 
 unfoldable pub Lay_knife_safe : Type 0
 Lay_knife_safe =
     (b : List ℕ) (g : ℕ) (s out work : List ℕ) (t : Totals) (s' out' work' : List ℕ) →
-    LayStep b g s out work (Laid t) s' out' work' → (l : LaysList b g s t s' out' work) × KnifeSafe (sheet_r b) (as_calls l.list)
+    LayStep b g s out work (Ok t) s' out' work' → (l : LaysList b g s t s' out' work) × KnifeSafe (sheet_r b) (as_calls l.list)

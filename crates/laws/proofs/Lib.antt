@@ -15,3 +15,4 @@ pub mod Formed
 pub mod Complete
 pub mod SheetChains
 pub mod Entries
+pub mod Granted

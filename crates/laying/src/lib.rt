@@ -8,17 +8,7 @@ ghost use Rattle.defs.specs.Computing.Lay.{LayStep};
 ghost use Rattle.reads.specs.Steps.{JobPasses};
 ghost use Rattle.laying.specs.Jobs.{LayAnswered};
 
-use defs::{Laying, Refusal};
-use reads::{Job, Strip};
-
-fn refused(number: u16, ordinal: u16) -> Laying
-    ensures { result ≡ Laying.Refused (record { number = number; ordinal = ordinal }) }
-{
-    Laying::Refused(Refusal {
-        number: number,
-        ordinal: ordinal,
-    })
-}
+use defs::{Refusal, Totals, refused};
 
 // Question 15 of a job of `count` pieces that passes the others; then its pieces.
 fn lay_asked(
@@ -28,28 +18,26 @@ fn lay_asked(
     strip: &mut [u16],
     out: &mut [u16],
     work: &mut [u16],
-) -> Laying
+) -> Result<Totals, Refusal>
     requires { JobPasses sheet.now (gapb gap) (lengthb (sheet_n sheet.now) (length strip.old)) count }
     ensures { LayAnswered sheet.now gap strip.old out.old (length work.old) result strip.new out.new }
 {
     if out.len() < numbers::ENTRY_WORDS * count {
         return refused(15, 0);
     }
-    Laying::Laid(job::lay_tables(sheet, gap, strip, out, work))
+    Ok(job::lay_tables(sheet, gap, strip, out, work))
 }
 
 // All questions, and the job. Leaves words in the work buffer.
-fn lay_sheet(sheet: &[u8], gap: u16, strip: &mut [u16], out: &mut [u16], work: &mut [u16]) -> Laying
+fn lay_sheet(sheet: &[u8], gap: u16, strip: &mut [u16], out: &mut [u16], work: &mut [u16]) -> Result<Totals, Refusal>
     ensures { LayAnswered sheet.now gap strip.old out.old (length work.old) result strip.new out.new }
 {
-    match reads::ask(sheet, Strip::Lent(gap, strip.len())) {
-        Job::Pieces(count) => lay_asked(sheet, gap, count, strip, out, work),
-        Job::No(number, ordinal) => refused(number, ordinal),
-    }
+    let count = reads::ask(sheet, Some((gap, strip.len())))?;
+    lay_asked(sheet, gap, count, strip, out, work)
 }
 
 // The lay call.
-pub fn lay(sheet: &[u8], gap: u16, strip: &mut [u16], out: &mut [u16], work: &mut [u16]) -> Laying
+pub fn lay(sheet: &[u8], gap: u16, strip: &mut [u16], out: &mut [u16], work: &mut [u16]) -> Result<Totals, Refusal>
     ensures { LayStep sheet.now gap strip.old out.old work.old result strip.new out.new work.new }
 {
     let a = lay_sheet(sheet, gap, strip, out, work);

@@ -2,7 +2,6 @@
 -- Assumes nothing.
 use mathlib.Core.Path.{◌≡◌, refl, sym, ap, ◌∙◌}
 use mathlib.Core.Bool.{Bool, true, false}
-use mathlib.Core.Option.{Option, none, some}
 use mathlib.Core.List.{List, [], ◌∷◌, ◌++◌, append_assoc}
 use Prim.Native.Nat.{ℕ, ◌+◌, ◌*◌, ◌≤◌}
 use native.Mathlib.Omega.{arith}
@@ -10,10 +9,10 @@ use lib.Dec.{eqb}
 use lib.ListN.{length, get_or, drop, length-append}
 use lib.Seq.{get_or-drop, drop-drop}
 use borrow.Author.Tests.{eqb-false}
+use Rattle.std.specs.Prelude.{Option, Some, None, Result, Ok, Err}
+use Rattle.defs.specs.declared.Refusal.{Refusal}
 use Rattle.defs.specs.declared.Position.{Position}
 use Rattle.defs.specs.declared.Entry.{Entry}
-use Rattle.defs.specs.declared.Placing.{Placing}
-use Rattle.defs.specs.declared.Placing.TheVariants.{Placed, Refused as NotPlaced}
 use Rattle.defs.specs.Answer.{fate_words}
 use Rattle.defs.specs.Meaning.Sheet.{Piece}
 use Rattle.defs.specs.Computing.Test.{ask}
@@ -28,19 +27,19 @@ use Rattle.layout.specs.Lines.{four_lines}
 use Rattle.layoutlines.proofs.Line.{fate_placed, fate_refused}
 
 -- a refused piece has a number
-abbrev Numbered : Placing → Type 0
-Numbered (Placed p) = Unit
-Numbered (NotPlaced r) = ¬ (r.number ≡ 0)
+abbrev Numbered : Result Position Refusal → Type 0
+Numbered (Ok p) = Unit
+Numbered (Err r) = ¬ (r.number ≡ 0)
 
-asked_numbered : (t : Bool) (n : ℕ) (rest : Unit {0} → Placing) → (t ≡ false → ¬ (n ≡ 0)) → Numbered (rest tt) →
-    Numbered (ask t (NotPlaced (refusal n 1)) rest)
+asked_numbered : (t : Bool) (n : ℕ) (rest : Unit {0} → Result Position Refusal) → (t ≡ false → ¬ (n ≡ 0)) → Numbered (rest tt) →
+    Numbered (ask t (Err (refusal n 1)) rest)
 asked_numbered true n rest h r = r
 asked_numbered false n rest h r = h refl
 
 choose_numbered : (W R Q : ℕ) (held : List (List Rows)) (o : List ℕ) (best : Option Position) → Numbered (choose W R 0 Q held o best)
 unfolding choose
-choose_numbered W R Q held o none = λ e. omega arith
-choose_numbered W R Q held o (some p) = asked_numbered (q14b W R 0 Q held o p) 14 _ (λ _ e. omega arith) tt
+choose_numbered W R Q held o None = λ e. omega arith
+choose_numbered W R Q held o (Some p) = asked_numbered (q14b W R 0 Q held o p) 14 _ (λ _ e. omega arith) tt
 
 place_numbered : (W R N Q : ℕ) (held : List (List Rows)) (o : List ℕ) (mask words : ℕ) → Numbered (place_on W R N 0 Q held o mask words)
 unfolding place_on
@@ -52,7 +51,7 @@ place_numbered W R N Q held o mask words =
 -- entries from ordinal i + 1 on
 data InOrder : ℕ → List Entry → Type 0 where
   no_entry : {i : ℕ} → InOrder i []
-  an_entry : {i : ℕ} {es : List Entry} (a : Placing) → Numbered a → InOrder (i + 1) es →
+  an_entry : {i : ℕ} {es : List Entry} (a : Result Position Refusal) → Numbered a → InOrder (i + 1) es →
       InOrder i (record { ordinal = i + 1; fate = fate_of a } ∷ es)
 
 in_order : (W R N Q words i : ℕ) (held : List (List Rows)) (ps : List Piece) → InOrder i (entries_from W R N 0 Q words (i + 1) held ps)
@@ -64,25 +63,25 @@ in_order W R N Q words i held (p ∷ ps) =
     (in_order W R N Q words (i + 1) (held_after W R 0 held p.outline a) ps)
 
 -- the line of one entry, from its words
-abbrev word : Placing → List ℕ → ℕ → ℕ
+abbrev word : Result Position Refusal → List ℕ → ℕ → ℕ
 word a more i = get_or (fate_words (fate_of a) ++ more) i 0
 
-four_line_lem : (k : ℕ) (more : List ℕ) (a : Placing) → Numbered a →
+four_line_lem : (k : ℕ) (more : List ℕ) (a : Result Position Refusal) → Numbered a →
     four_line k (word a more 0) (word a more 1) (word a more 2) (word a more 3) ≡ entry_line (record { ordinal = k; fate = fate_of a })
 unfolding four_line entry_line
-four_line_lem k more (Placed p) n = ap (λ (l : List ℕ). decimal k ++ l) (sym (fate_placed p.turn p.column p.height refl))
-four_line_lem k more (NotPlaced r) n = ap (λ (l : List ℕ). decimal k ++ l) (sym (fate_refused r.number 0 0 0 n))
+four_line_lem k more (Ok p) n = ap (λ (l : List ℕ). decimal k ++ l) (sym (fate_placed p.turn p.column p.height refl))
+four_line_lem k more (Err r) n = ap (λ (l : List ℕ). decimal k ++ l) (sym (fate_refused r.number 0 0 0 n))
 
-entry_line_lem : (k : ℕ) (ws more : List ℕ) (j : ℕ) (a : Placing) → Numbered a → drop j ws ≡ fate_words (fate_of a) ++ more →
+entry_line_lem : (k : ℕ) (ws more : List ℕ) (j : ℕ) (a : Result Position Refusal) → Numbered a → drop j ws ≡ fate_words (fate_of a) ++ more →
     four_line k (get_or ws j 0) (get_or ws (j + 1) 0) (get_or ws (j + 2) 0) (get_or ws (j + 3) 0) ≡ entry_line (record { ordinal = k; fate = fate_of a })
 entry_line_lem k ws more j a n e =
     let at : (i : ℕ) → get_or ws (j + i) 0 ≡ word a more i = λ i. sym (get_or-drop j ws i 0) ∙ ap (λ (l : List ℕ). get_or l i 0) e in
     let first : get_or ws j 0 ≡ word a more 0 = ap (λ (i : ℕ). get_or ws i 0) (omega arith) ∙ at 0 in
     rw (first, at 1, at 2, at 3) (four_line_lem k more a n)
 
-past : (a : Placing) (more : List ℕ) → drop 4 (fate_words (fate_of a) ++ more) ≡ more
-past (Placed p) more = refl
-past (NotPlaced r) more = refl
+past : (a : Result Position Refusal) (more : List ℕ) → drop 4 (fate_words (fate_of a) ++ more) ≡ more
+past (Ok p) more = refl
+past (Err r) more = refl
 
 lines_are : {i : ℕ} {es : List Entry} (ws rest : List ℕ) → InOrder i es → drop (4 * i) ws ≡ entries_words es ++ rest →
     four_lines ws i (length es) ≡ entry_lines es

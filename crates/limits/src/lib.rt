@@ -3,6 +3,9 @@
 
 ghost use Rattle.std.specs.Prelude.{◌≡◌, ◌&&◌, leb};
 ghost use Rattle.defs.specs.Computing.Words.{resolutionb, gapb, limits_no, figures_no, lengthb, records_of};
+ghost use Rattle.defs.specs.Computing.Calls.{passing};
+
+use defs::{Refusal, refused};
 
 pub const MOST_WIDTH: u16 = 16000;
 
@@ -42,10 +45,7 @@ pub const NEXT: usize = 3;
 fn in_range(x: u16, most: u16) -> bool
     ensures { result ≡ (leb 1 x && leb x most) }
 {
-    if 1 <= x {
-        return x <= most;
-    }
-    false
+    1 <= x && x <= most
 }
 
 // Question 16.
@@ -55,20 +55,20 @@ pub fn resolution_fits(r: u16) -> bool
     in_range(r, numbers::MOST_RESOLUTION)
 }
 
-// The first of questions 3, 16 and 17 that gets "no", else 0.
-pub fn limits_no(w: u16, r: u16, n: u16) -> u16
-    ensures { result ≡ limits_no w r n }
+// Questions 3, 16 and 17.
+pub fn limits(w: u16, r: u16, n: u16) -> Result<(), Refusal>
+    ensures { result ≡ passing (limits_no w r n) }
 {
     if !in_range(w, MOST_WIDTH) {
-        return 3;
+        return refused(3, 0);
     }
     if !resolution_fits(r) {
-        return 16;
+        return refused(16, 0);
     }
     if !in_range(n, MOST_COLUMNS) {
-        return 17;
+        return refused(17, 0);
     }
-    0
+    Ok(())
 }
 
 // Question 21.
@@ -78,18 +78,15 @@ pub fn gap_fits(g: u16) -> bool
     g <= MOST_GAP
 }
 
-// The first of questions 3, 16, 17 and 21 that gets "no", else 0.
-pub fn figures_no(w: u16, r: u16, n: u16, g: u16) -> u16
-    ensures { result ≡ figures_no w r n g }
+// Questions 3, 16, 17 and 21.
+pub fn figures(w: u16, r: u16, n: u16, g: u16) -> Result<(), Refusal>
+    ensures { result ≡ passing (figures_no w r n g) }
 {
-    let no = limits_no(w, r, n);
-    if no != 0 {
-        return no;
-    }
+    limits(w, r, n)?;
     if !gap_fits(g) {
-        return 21;
+        return refused(21, 0);
     }
-    0
+    Ok(())
 }
 
 // Q of a strip of n columns and so many words.
@@ -112,8 +109,5 @@ pub fn length_fits(n: u16, words: usize) -> bool
     if q < 1 {
         return false;
     }
-    if MOST_RECORDS < q {
-        return false;
-    }
-    words == LEADING_WORDS + n as usize + RECORD_WORDS * q
+    q <= MOST_RECORDS && words == LEADING_WORDS + n as usize + RECORD_WORDS * q
 }

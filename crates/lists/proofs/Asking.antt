@@ -9,7 +9,7 @@ use lib.Dec.{leb}
 use lib.ListN.{length, get_or, take, drop, length-drop}
 use lib.Seq.{drop-drop, get_or-drop}
 use borrow.Author.Tests.{le-leb, lt-leb}
-use Rattle.defs.specs.Computing.Calls.{q9b}
+use Rattle.defs.specs.Computing.Calls.{q9b, refusal}
 use Rattle.defs.specs.Computing.Sheets.{vertices_in, list_tails, list_pieces, list_piece_no, q6_listb, q7_listb, first_no}
 use Rattle.laws.proofs.Tests.{asked}
 use Rattle.laws.proofs.Questions.{question_6_list, question_7_list}
@@ -122,7 +122,7 @@ module _ {list : List ℕ} {a left k v : ℕ} (s : Asking list a left k v) (p : 
             no_on (list_piece_no R) k (drop a list) (list_tails (left - 1) (drop (a + (2 + 2 * m)) list)) (sym (f.every R h) ∙ z);
       }
 
-  pub ask_stop : {n : ℕ} → PieceNo (drop a list) n → (n ≡ 0 → ⊥) → FirstRefused list n k
+  pub ask_stop : {n : ℕ} → PieceNo (drop a list) n → (n ≡ 0 → ⊥) → FirstRefused list (refusal n k)
   ask_stop {n} f z =
       record {
         every = λ R h.

@@ -1,12 +1,8 @@
 -- What is known of a list after questions 7 to 11. An answer holds for every resolution. Assumes nothing.
-use Rattle.std.specs.Prelude.{◌≡◌, true, List, ℕ, ◌+◌, ◌*◌, ◌≤◌, length, get_or, drop}
-use Rattle.std.proofs.Math.Option.{Option, none, some}
+use Rattle.std.specs.Prelude.{◌≡◌, true, List, ℕ, ◌+◌, ◌*◌, ◌≤◌, length, get_or, drop, Option, Some, None, Result, Ok, Err}
 use Rattle.defs.specs.declared.Refusal.{Refusal}
 use Rattle.defs.specs.Meaning.Limits.{most_vertices}
-use Rattle.defs.specs.Computing.Calls.{refusal}
 use Rattle.defs.specs.Computing.Sheets.{vertices_in, list_tails, list_pieces, list_piece_no, q7_listb, first_no}
-use Rattle.lists.specs.declared.No.{No}
-use Rattle.lists.specs.declared.No.TheVariants.{Pass, At}
 
 -- the piece at place a passes 7
 pub record PieceWhole (list : List ℕ) (a : ℕ) : Type 0 where
@@ -23,14 +19,14 @@ abbrev pub first_refusal : ℕ → List ℕ → Option Refusal
 first_refusal R list = first_no (list_piece_no R) 1 (list_tails (get_or list 0 0) (drop 1 list))
 
 pub record NoneRefused (list : List ℕ) (v : ℕ) : Type 0 where
-  pub every : (R : ℕ) → 1 ≤ R → first_refusal R list ≡ none
+  pub every : (R : ℕ) → 1 ≤ R → first_refusal R list ≡ None
   pub vertices : v ≡ vertices_in (list_pieces list)
   pub few : v ≤ 12800
 
-pub record FirstRefused (list : List ℕ) (n k : ℕ) : Type 0 where
-  pub every : (R : ℕ) → 1 ≤ R → first_refusal R list ≡ some (refusal n k)
+pub record FirstRefused (list : List ℕ) (r : Refusal) : Type 0 where
+  pub every : (R : ℕ) → 1 ≤ R → first_refusal R list ≡ Some r
 
 -- "7 to 11 piece by piece"
-abbrev pub Asked : List ℕ → No → Type 0
-Asked list (Pass v) = NoneRefused list v
-Asked list (At n k) = FirstRefused list n k
+abbrev pub Asked : List ℕ → Result ℕ Refusal → Type 0
+Asked list (Ok v) = NoneRefused list v
+Asked list (Err r) = FirstRefused list r

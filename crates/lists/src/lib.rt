@@ -5,6 +5,8 @@ ghost use Rattle.std.specs.Prelude.{◌≡◌, true, ◌+◌, ◌*◌, ◌≤◌
 ghost use Rattle.defs.specs.Computing.Sheets.{q6_listb, q7_listb};
 ghost use Rattle.lists.specs.Asked.{PieceWhole, PieceNo, Asked};
 
+use defs::Refusal;
+
 const LEAST_VERTICES: usize = 3;
 
 // Question 7 of the piece at place a of the list: 3 to 64 vertices, and its words complete.
@@ -49,15 +51,8 @@ fn piece_no(list: &[u16], a: usize) -> u16
     outline_no(list, a)
 }
 
-#[derive(Clone, Copy)]
-pub enum No {
-    // with the number of vertices
-    Pass(usize),
-    At(u16, u16),
-}
-
 // Questions 7 to 11, piece by piece: the first that gets "no", with the piece's place in the list.
-pub fn first_no(list: &[u16]) -> No
+pub fn first_no(list: &[u16]) -> Result<usize, Refusal>
     requires { q6_listb list.now ≡ true }
     ensures { Asked list.now result }
 {
@@ -68,7 +63,7 @@ pub fn first_no(list: &[u16]) -> No
     while 0 < left {
         let n = piece_no(list, a);
         if n != 0 {
-            return No::At(n, k);
+            return Err(Refusal { number: n, ordinal: k });
         }
         let m = list[a] as usize;
         a += 2 + 2 * m;
@@ -76,5 +71,5 @@ pub fn first_no(list: &[u16]) -> No
         k += 1;
         v += m;
     }
-    No::Pass(v)
+    Ok(v)
 }

@@ -5,13 +5,14 @@
 use mathlib.Core.Path.{◌≡◌, refl, ap, subst}
 use mathlib.Core.Bool.{Bool, true, false, cond}
 use mathlib.Core.List.{List, [], ◌∷◌}
-use mathlib.Core.Option.{Option, none, some, some-injective, none-ne-some}
 use Prim.Native.Nat.{ℕ, zero, suc, ◌+◌, ◌*◌, ◌-◌, ◌≤◌, ◌<◌, max}
 use native.Mathlib.Omega.{arith}
 use native.Mathlib.Nat.{mul-le-mul_left, mul-le-mul_right}
 use lib.Dec.{ltb, leb}
 use lib.ListN.{length}
 use borrow.Author.Tests.{ltb-true, lt-ltb, le-ltb}
+use Rattle.std.specs.Prelude.{Option, Some, None}
+use Rattle.std.proofs.lemmas.Option.{same_Some, none-some}
 use Rattle.defs.specs.Meaning.Turn.{extent_x, extent_y}
 use Rattle.defs.specs.Meaning.Placing.{columns_for}
 use Rattle.defs.specs.Computing.Test.{any}
@@ -73,10 +74,10 @@ module _ (y z : ℕ) (l : y ≤ z) where
   fewer (c ∷ cs) (b ∷ bs) = omega (arith, column_fewer c b, fewer cs bs)
 
 -- a clash goes up, and leaves its pair behind
-run_clash : (y : ℕ) (r : Rows) (bs : List Rows) (b : Rows) → lowest_met y r bs ≡ some b →
+run_clash : (y : ℕ) (r : Rows) (bs : List Rows) (b : Rows) → lowest_met y r bs ≡ Some b →
     (r.low + y < b.high) × (ahead_of (b.high - r.low) r bs < ahead_of y r bs)
 unfolding lowest_met ahead_of meets
-run_clash y r [] b e = absurd (none-ne-some b e)
+run_clash y r [] b e = absurd (none-some b e)
 run_clash y r (x ∷ bs) b e = go (meets y r x) refl e (run_clash y r bs b)
   where
     here : (ends y r x ≡ true) → x ≡ b → (r.low + y < b.high) ×
@@ -87,10 +88,10 @@ run_clash y r (x ∷ bs) b e = go (meets y r x) refl e (run_clash y r bs b)
         le-ltb (r.low + (b.high - r.low)) x.high (omega (arith, ap (λ (w : Rows). w.high) q)) in
         (up, rw (t, past) (omega (arith, run_fewer y (b.high - r.low) (omega arith) r bs)))
 
-    go : (m : Bool) → meets y r x ≡ m → cond m (some x) (lowest_met y r bs) ≡ some b →
-        (lowest_met y r bs ≡ some b → (r.low + y < b.high) × (ahead_of (b.high - r.low) r bs < ahead_of y r bs)) →
+    go : (m : Bool) → meets y r x ≡ m → cond m (Some x) (lowest_met y r bs) ≡ Some b →
+        (lowest_met y r bs ≡ Some b → (r.low + y < b.high) × (ahead_of (b.high - r.low) r bs < ahead_of y r bs)) →
         (r.low + y < b.high) × (one (ends (b.high - r.low) r x) + ahead_of (b.high - r.low) r bs < one (ends y r x) + ahead_of y r bs)
-    go true t q later = here (and_left (ends y r x) _ t) (some-injective _ _ q)
+    go true t q later = here (and_left (ends y r x) _ t) (same_Some _ _ q)
     go false t q later =
         let u = later q in
         (u.0, omega (arith, u.1, ends_fewer y (b.high - r.low) r x (omega (arith, u.0))))
@@ -98,45 +99,45 @@ run_clash y r (x ∷ bs) b e = go (meets y r x) refl e (run_clash y r bs b)
 abbrev Up : ℕ → Clash → Type 0
 Up y m = m.own.low + y < m.met.high
 
-column_clash : (y : ℕ) (c b : List Rows) (m : Clash) → clash_in y c b ≡ some m → Up y m × (ahead_in (next_height m) c b < ahead_in y c b)
+column_clash : (y : ℕ) (c b : List Rows) (m : Clash) → clash_in y c b ≡ Some m → Up y m × (ahead_in (next_height m) c b < ahead_in y c b)
 unfolding clash_in clash_or ahead_in
-column_clash y [] b m e = absurd (none-ne-some m e)
+column_clash y [] b m e = absurd (none-some m e)
 column_clash y (r ∷ rs) b m e = go (lowest_met y r b) refl e (column_clash y rs b m)
   where
     Goal : Clash → Type 0
     Goal m = Up y m × (ahead_of (next_height m) r b + ahead_in (next_height m) rs b < ahead_of y r b + ahead_in y rs b)
 
-    go : (x : Option Rows) → lowest_met y r b ≡ x → clash_or r x (clash_in y rs b) ≡ some m →
-        (clash_in y rs b ≡ some m → Up y m × (ahead_in (next_height m) rs b < ahead_in y rs b)) → Goal m
-    go none t q later =
+    go : (x : Option Rows) → lowest_met y r b ≡ x → clash_or r x (clash_in y rs b) ≡ Some m →
+        (clash_in y rs b ≡ Some m → Up y m × (ahead_in (next_height m) rs b < ahead_in y rs b)) → Goal m
+    go None t q later =
         let u = later q in
         (u.0, omega (arith, u.1, run_fewer y (next_height m) (omega (arith, u.0)) r b))
-    go (some x) t q later =
+    go (Some x) t q later =
         let u = run_clash y r b x t in
-        subst Goal (some-injective _ _ q)
+        subst Goal (same_Some _ _ q)
         (u.0, omega (arith, u.1, column_fewer y (x.high - r.low) (omega (arith, u.0)) rs b))
 
-clash : (y : ℕ) (piece strip : List (List Rows)) (m : Clash) → first_clash y piece strip ≡ some m →
+clash : (y : ℕ) (piece strip : List (List Rows)) (m : Clash) → first_clash y piece strip ≡ Some m →
     Up y m × (ahead (next_height m) piece strip < ahead y piece strip)
 unfolding first_clash first_of ahead
-clash y [] strip m e = absurd (none-ne-some m e)
-clash y (c ∷ cs) [] m e = absurd (none-ne-some m e)
+clash y [] strip m e = absurd (none-some m e)
+clash y (c ∷ cs) [] m e = absurd (none-some m e)
 clash y (c ∷ cs) (b ∷ bs) m e = go (clash_in y c b) refl e (clash y cs bs m)
   where
     Goal : Clash → Type 0
     Goal m = Up y m × (ahead_in (next_height m) c b + ahead (next_height m) cs bs < ahead_in y c b + ahead y cs bs)
 
-    go : (x : Option Clash) → clash_in y c b ≡ x → first_of x (first_clash y cs bs) ≡ some m →
-        (first_clash y cs bs ≡ some m → Up y m × (ahead (next_height m) cs bs < ahead y cs bs)) → Goal m
-    go none t q later =
+    go : (x : Option Clash) → clash_in y c b ≡ x → first_of x (first_clash y cs bs) ≡ Some m →
+        (first_clash y cs bs ≡ Some m → Up y m × (ahead (next_height m) cs bs < ahead y cs bs)) → Goal m
+    go None t q later =
         let u = later q in
         (u.0, omega (arith, u.1, column_fewer y (next_height m) (omega (arith, u.0)) c b))
-    go (some x) t q later =
+    go (Some x) t q later =
         let u = column_clash y c b x t in
-        subst Goal (some-injective _ _ q)
+        subst Goal (same_Some _ _ q)
         (u.0, omega (arith, u.1, fewer y (next_height x) (omega (arith, u.0)) cs bs))
 
-pub clash_rises : (y : ℕ) (piece strip : List (List Rows)) {m : Clash} → first_clash y piece strip ≡ some m → y < next_height m
+pub clash_rises : (y : ℕ) (piece strip : List (List Rows)) {m : Clash} → first_clash y piece strip ≡ Some m → y < next_height m
 clash_rises y piece strip {m} e = omega (arith, (clash y piece strip m e).0)
 
 -- a run of the piece has at most one pair with each run of its column, so there are at most p × q pairs
@@ -173,8 +174,8 @@ module _ (W h : ℕ) (piece there : List (List Rows)) where
           ((z : ℕ) → length (heights_from W h piece there n z) ≤ 1 + ahead z piece there) →
           length (cond fits (y ∷ goes_on x (heights_from W h piece there n)) []) ≤ 1 + ahead y piece there
       go false x e few = omega arith
-      go true none e few = omega arith
-      go true (some m) e few = omega (arith, few (next_height m), (clash y piece there m e).1)
+      go true None e few = omega arith
+      go true (Some m) e few = omega (arith, few (next_height m), (clash y piece there m e).1)
 
 -- one turn
 module _ (W h p q : ℕ) (piece strip : List (List Rows)) (few : count_runs piece ≤ p) (held : count_runs strip ≤ q) where

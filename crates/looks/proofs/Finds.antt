@@ -4,12 +4,12 @@ use mathlib.Core.Path.{◌≡◌, refl, sym, ap, ◌∙◌}
 use mathlib.Core.Logic.{◌⊎◌, inl, inr}
 use mathlib.Core.Bool.{Bool, true, false, cond, not, ◌||◌, false≢true}
 use mathlib.Core.List.{List, [], ◌∷◌}
-use mathlib.Core.Option.{Option, none, some}
 use Prim.Native.Nat.{ℕ, zero, suc, ◌+◌, ◌-◌, ◌≤◌, ◌<◌}
 use native.Mathlib.Omega.{arith}
 use lib.Dec.{leb}
 use lib.ListN.{length, get_or}
 use borrow.Author.Tests.{leb-true, leb-false, lt-leb}
+use Rattle.std.specs.Prelude.{Option, Some, None}
 use Rattle.defs.specs.declared.Position.{Position}
 use Rattle.defs.specs.Meaning.Turn.{extent_x, extent_y}
 use Rattle.defs.specs.Meaning.Placing.{columns_for}
@@ -24,7 +24,7 @@ use Rattle.looks.proofs.Clashes.{clashed, free_test, clash_taken}
 use Rattle.looks.proofs.Between.{between_taken}
 
 -- A search from y on that finds nothing below z is one from z on.
-skip : {A : Type 0} (f : ℕ → Option A) (end d y z : ℕ) → y + d ≡ z → ((u : ℕ) → y ≤ u → u < z → f u ≡ none) →
+skip : {A : Type 0} (f : ℕ → Option A) (end d y z : ℕ) → y + d ≡ z → ((u : ℕ) → y ≤ u → u < z → f u ≡ None) →
     first_from f y (end - y) ≡ first_from f z (end - z)
 skip f end zero y z to h = let e : y ≡ z = omega arith in ap (λ (k : ℕ). first_from f k (end - k)) e
 skip f end (suc d) y z to h = go (lt_or_le y end) (skip f end d (suc y) z (omega arith) (λ u a b. h u (omega arith) b))
@@ -33,7 +33,7 @@ skip f end (suc d) y z to h = go (lt_or_le y end) (skip f end d (suc y) z (omega
         first_from f y (end - y) ≡ first_from f z (end - z)
     go (inl l) later =
         let more : end - y ≡ suc (end - suc y) = omega arith in
-        ap (first_from f y) more ∙ from_here f y (end - suc y) none (h y (omega arith) (omega arith)) ∙ later
+        ap (first_from f y) more ∙ from_here f y (end - suc y) None (h y (omega arith) (omega arith)) ∙ later
     go (inr l) later = none_of f y (end - y) (λ u a b. absurd (omega arith)) ∙ sym (none_of f z (end - z) (λ u a b. absurd (omega arith)))
 
 -- One column: h is the piece's height, so the heights that fit are those below `end`.
@@ -42,10 +42,10 @@ module _ (W h t c : ℕ) (piece there : List (List Rows)) where
   end = (W + 1) - h
 
   abbrev here : ℕ → Option Position
-  here y = cond (freeb y piece there) (some (position t c y)) none
+  here y = cond (freeb y piece there) (Some (position t c y)) None
 
   abbrev or_else : Option Position → Option Position → Option Position
-  or_else x later = elim x [ none ↦ later | some a ↦ some a ]
+  or_else x later = elim x [ None ↦ later | Some a ↦ Some a ]
 
   -- past the last height nothing is found
   nothing_past : (y : ℕ) (later : Option Position) → end ≤ y → or_else (first_from here y (end - y)) later ≡ later
@@ -63,21 +63,21 @@ module _ (W h t c : ℕ) (piece there : List (List Rows)) where
           free_among t c piece there (cond fits (y ∷ goes_on x (heights_from W h piece there n)) []) later ≡
           or_else (first_from here y (end - y)) later
       go false x f e next = sym (nothing_past y later (omega (arith, leb-false (y + h) W f)))
-      go true none f e next =
+      go true None f e next =
           let free : freeb y piece there ≡ true = free_test y piece there ∙ ap (λ (x : Option Clash). not (clashed x)) e in
           let more : end - y ≡ suc (end - suc y) = omega (arith, leb-true (y + h) W f) in
-          ap (λ (b : Bool). cond b (some (position t c y)) later) free ∙
+          ap (λ (b : Bool). cond b (Some (position t c y)) later) free ∙
           sym
           (ap (λ (x : Option Position). or_else x later)
           (ap (first_from here y) more ∙
-          from_here here y (end - suc y) (some (position t c y)) (ap (λ (b : Bool). cond b (some (position t c y)) none) free)))
-      go true (some m) f e next =
+          from_here here y (end - suc y) (Some (position t c y)) (ap (λ (b : Bool). cond b (Some (position t c y)) None) free)))
+      go true (Some m) f e next =
           let z = next_height m in
           let up = clash_rises y piece there e in
           let same : first_from here y (end - y) ≡ first_from here z (end - z) =
           skip here end (z - y) y z (omega arith)
-          (λ u a b. ap (λ (d : Bool). cond d (some (position t c u)) none) (between_taken y u a piece there m e b)) in
-          ap (λ (b : Bool). cond b (some (position t c y)) (free_among t c piece there (heights_from W h piece there n z) later))
+          (λ u a b. ap (λ (d : Bool). cond d (Some (position t c u)) None) (between_taken y u a piece there m e b)) in
+          ap (λ (b : Bool). cond b (Some (position t c y)) (free_among t c piece there (heights_from W h piece there n z) later))
           (clash_taken y piece there e) ∙
           next z (omega arith) ∙
           ap (λ (x : Option Position). or_else x later) (sym same)
@@ -98,7 +98,7 @@ module _ (W h t c : ℕ) (piece there : List (List Rows)) where
     where
       go : (b : Bool) → (b || any (λ y. freeb y piece there) ys) ≡ true →
           (any (λ y. freeb y piece there) ys ≡ true → free_among t c piece there ys k ≡ free_among t c piece there ys l) →
-          cond b (some (position t c y)) (free_among t c piece there ys k) ≡ cond b (some (position t c y)) (free_among t c piece there ys l)
+          cond b (Some (position t c y)) (free_among t c piece there ys k) ≡ cond b (Some (position t c y)) (free_among t c piece there ys l)
       go true e next = refl
       go false e next = next e
 
@@ -147,8 +147,8 @@ module _ (W h : ℕ) (piece : List (List Rows)) where
       go : (fits : Bool) (x : Option Clash) → ((z : ℕ) → length (heights_from W h piece there n z) ≤ n) →
           length (cond fits (y ∷ goes_on x (heights_from W h piece there n)) []) ≤ suc n
       go false x few = omega arith
-      go true none few = omega arith
-      go true (some m) few = omega (arith, few (next_height m))
+      go true None few = omega arith
+      go true (Some m) few = omega (arith, few (next_height m))
 
   column_few : (strip : List (List Rows)) (c n k : ℕ) → length (get_or (columns_from W h piece strip c n) k []) ≤ (W + 1) - h
   unfolding columns_from heights_in
@@ -181,8 +181,8 @@ module _ (W h : ℕ) (piece : List (List Rows)) where
           ((z : ℕ) → (W + 1) - h ≤ z + n → (W + 1) - h ≤ z + m → heights_from W h piece there n z ≡ heights_from W h piece there m z) →
           cond (leb (y + h) W) (y ∷ goes_on x (heights_from W h piece there n)) [] ≡
           cond (leb (y + h) W) (y ∷ goes_on x (heights_from W h piece there m)) []
-      go none e next = refl
-      go (some x) e next =
+      go None e next = refl
+      go (Some x) e next =
           let up = clash_rises y piece there e in
           ap (λ (ys : List ℕ). cond (leb (y + h) W) (y ∷ ys) []) (next (next_height x) (omega arith) (omega arith))
 

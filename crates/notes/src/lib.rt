@@ -3,8 +3,7 @@
 
 ghost use Rattle.std.specs.Prelude.{◌≤◌, length};
 
-use checks::Checked;
-use defs::{EdgePair, Retracing};
+use defs::EdgePair;
 use outline::Side;
 
 // The bytes of the notes on a job of 200 pieces, at most.
@@ -26,8 +25,8 @@ fn edge_numbered(o: &[u16], k: u16) -> Side {
         return none;
     }
     match checks::bounds(o) {
-        Checked::No(_) => none,
-        Checked::Passes(_) => retrace::edge(o, i - 1),
+        Err(_) => none,
+        Ok(_) => retrace::edge(o, i - 1),
     }
 }
 
@@ -69,9 +68,9 @@ fn put_note(notes: &mut [u8], at: usize, o: &[u16], line: u16) -> usize
     ensures { result ≤ length notes.new }
 {
     match retrace::retrace(o) {
-        Retracing::Twice(p) => put_stretch(notes, at, line, shared_by(o, p)),
-        Retracing::Nowhere => at,
-        Retracing::Refused(_) => at,
+        Ok(Some(p)) => put_stretch(notes, at, line, shared_by(o, p)),
+        Ok(None) => at,
+        Err(_) => at,
     }
 }
 

@@ -5,7 +5,7 @@ ghost use Rattle.std.specs.Prelude.{◌≡◌, length};
 ghost use Rattle.defs.specs.Computing.Calls.{OpenStep, opened_strip};
 ghost use Rattle.encode.specs.Room.{Room};
 
-use defs::{Figures, Opening, Refusal};
+use defs::{Figures, Refusal, refused};
 
 // The strip of these figures and this gap whose columns are empty. No old word of it is looked at.
 fn put_empty(strip: &mut [u16], g: Figures, gap: u16)
@@ -17,25 +17,13 @@ fn put_empty(strip: &mut [u16], g: Figures, gap: u16)
     encode::encode(strip, g, gap, &first, &none, &none, 0);
 }
 
-fn refused(number: u16) -> Opening
-    ensures { result ≡ Opening.Refused (record { number = number; ordinal = 0 }) }
-{
-    Opening::Refused(Refusal {
-        number: number,
-        ordinal: 0,
-    })
-}
-
 // The open call.
-pub fn open(w: u16, r: u16, n: u16, g: u16, strip: &mut [u16]) -> Opening
+pub fn open(w: u16, r: u16, n: u16, g: u16, strip: &mut [u16]) -> Result<(), Refusal>
     ensures { OpenStep w r n g strip.old result strip.new }
 {
-    let no = limits::figures_no(w, r, n, g);
-    if no != 0 {
-        return refused(no);
-    }
+    limits::figures(w, r, n, g)?;
     if !limits::length_fits(n, strip.len()) {
-        return refused(4);
+        return refused(4, 0);
     }
     put_empty(
         strip,
@@ -46,5 +34,5 @@ pub fn open(w: u16, r: u16, n: u16, g: u16, strip: &mut [u16]) -> Opening
         },
         g,
     );
-    Opening::Opened
+    Ok(())
 }

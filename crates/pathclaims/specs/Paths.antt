@@ -1,16 +1,12 @@
 -- What is promised of paths (S-3): the questions of both calls in the manner of claims/specs/Numbers, what the calls leave in the output,
 -- that a path that is written reads back, and that nothing is rounded. Assumes nothing.
-use Rattle.std.specs.Prelude.{◌≡◌, ◌⊎◌, List, [], ◌∷◌, ℕ, ◌^◌, ◌≤◌, ◌<◌, length, take}
+use Rattle.std.specs.Prelude.{◌≡◌, ◌⊎◌, List, [], ◌∷◌, ℕ, ◌^◌, ◌≤◌, ◌<◌, length, take, Result, Ok, Err}
 use Rattle.defs.specs.declared.Refusal.{Refusal}
-use Rattle.defs.specs.declared.Writing.{Writing}
-use Rattle.defs.specs.declared.Writing.TheVariants.{Written, Refused as NotWritten}
 use Rattle.defs.specs.Answer.{writing}
 use Rattle.defs.specs.Meaning.Limits.{most_coordinate}
 use Rattle.defs.specs.Meaning.Question.{Question7, Question8, Question15}
 use Rattle.claims.specs.Demand1.{Past}
 use Rattle.claims.specs.Numbers.{Questions, asks, grants, Answers}
-use Rattle.pathdefs.specs.declared.PathReading.{PathReading}
-use Rattle.pathdefs.specs.declared.PathReading.TheVariants.{Words, Refused as NotRead}
 use Rattle.pathdefs.specs.Answer.{path_reading}
 use Rattle.pathdefs.specs.Meaning.Path.{Accepted, Question19, Question20, PathGives, Unsigned, path_size}
 use Rattle.pathdefs.specs.Computing.Paths.{written_bits, path_bytes, PathReadStep, PathWriteStep}
@@ -35,8 +31,8 @@ write_path_questions o bytes =
 -- A path reads as an outline.
 unfoldable pub ReadsAs : List ℕ → List ℕ → Type 0
 ReadsAs path o =
-    (a : PathReading) (out out' : List ℕ) → PathReadStep path out a out' → length o ≤ length out →
-    (a ≡ Words (length o)) × (take (length o) out' ≡ o)
+    (a : Result ℕ Refusal) (out out' : List ℕ) → PathReadStep path out a out' → length o ≤ length out →
+    (a ≡ Ok (length o)) × (take (length o) out' ≡ o)
 
 -- "Writing a path from an outline, once 7 and 8 pass, gives one that reads back as that outline, with the first vertex as the move"
 -- (PathGives), and "minus zero … is never written".
@@ -48,8 +44,8 @@ pub record ReadsBack (o path : List ℕ) : Type 0 where
 -- And the other way round: the outline o that a granted read gave is written where the output has room, and the path reads as o again.
 pub record ReadsAgain (o : List ℕ) : Type 0 where
   pub granted :
-      (a : Writing) (out out' : List ℕ) → PathWriteStep o out a out' → path_size o ≤ length out → a ≡ Written (path_size o)
-  pub again : (n : ℕ) (out out' : List ℕ) → PathWriteStep o out (Written n) out' → ReadsAs (take n out') o
+      (a : Result ℕ Refusal) (out out' : List ℕ) → PathWriteStep o out a out' → path_size o ≤ length out → a ≡ Ok (path_size o)
+  pub again : (n : ℕ) (out out' : List ℕ) → PathWriteStep o out (Ok n) out' → ReadsAs (take n out') o
 
 abbrev pub AreBytes : List ℕ → Type 0
 AreBytes [] = Unit {0}
@@ -58,21 +54,21 @@ AreBytes (b ∷ bs) = (b < 256) × AreBytes bs
 pub record Paths : Type 0 where
   -- the numbers
   pub read_asks :
-      {path out out' : List ℕ} {a : PathReading} → PathReadStep path out a out' →
+      {path out out' : List ℕ} {a : Result ℕ Refusal} → PathReadStep path out a out' →
       Answers (read_path_questions path (length out)) (path_reading a)
   pub write_asks :
-      {o out out' : List ℕ} {a : Writing} → PathWriteStep o out a out' → Answers (write_path_questions o (length out)) (writing a)
+      {o out out' : List ℕ} {a : Result ℕ Refusal} → PathWriteStep o out a out' → Answers (write_path_questions o (length out)) (writing a)
   -- "Strip and output keep their words at a refusal."; where a call is granted, what is past the output stays.
-  pub read_keeps : {path out out' : List ℕ} {r : Refusal} → PathReadStep path out (NotRead r) out' → out' ≡ out
-  pub write_keeps : {o out out' : List ℕ} {r : Refusal} → PathWriteStep o out (NotWritten r) out' → out' ≡ out
-  pub read_past : {path out out' : List ℕ} {n : ℕ} → PathReadStep path out (Words n) out' → Past n out out'
-  pub write_past : {o out out' : List ℕ} {n : ℕ} → PathWriteStep o out (Written n) out' → Past n out out'
+  pub read_keeps : {path out out' : List ℕ} {r : Refusal} → PathReadStep path out (Err r) out' → out' ≡ out
+  pub write_keeps : {o out out' : List ℕ} {r : Refusal} → PathWriteStep o out (Err r) out' → out' ≡ out
+  pub read_past : {path out out' : List ℕ} {n : ℕ} → PathReadStep path out (Ok n) out' → Past n out out'
+  pub write_past : {o out out' : List ℕ} {n : ℕ} → PathWriteStep o out (Ok n) out' → Past n out out'
   -- A granted read leaves the outline that the path gives. A path gives no two outlines.
-  pub read_gives : {path out out' : List ℕ} {n : ℕ} → PathReadStep path out (Words n) out' → PathGives path (take n out')
+  pub read_gives : {path out out' : List ℕ} {n : ℕ} → PathReadStep path out (Ok n) out' → PathGives path (take n out')
   pub one_outline : {path o o' : List ℕ} → PathGives path o → PathGives path o' → o ≡ o'
   -- Written and read; read, written and read.
-  pub reads_back : {o out out' : List ℕ} {n : ℕ} → PathWriteStep o out (Written n) out' → ReadsBack o (take n out')
-  pub reads_again : {path out out' : List ℕ} {n : ℕ} → PathReadStep path out (Words n) out' → ReadsAgain (take n out')
+  pub reads_back : {o out out' : List ℕ} {n : ℕ} → PathWriteStep o out (Ok n) out' → ReadsBack o (take n out')
+  pub reads_again : {path out out' : List ℕ} {n : ℕ} → PathReadStep path out (Ok n) out' → ReadsAgain (take n out')
   -- What is written is fixed by the words of S-3 alone: bytes that give an outline, without the sign, are those that are written.
   pub only_path :
       {path o : List ℕ} → AreBytes path → (g : PathGives path o) → Unsigned (g.first ∷ g.others) → path ≡ path_bytes o

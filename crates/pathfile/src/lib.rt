@@ -4,7 +4,6 @@
 ghost use Rattle.std.specs.Prelude.{◌≡◌, ◌+◌, ◌≤◌, length, take};
 ghost use Rattle.pathfile.specs.Within.{Within, Fit};
 
-use pathdefs::PathReading;
 use std::fs;
 use std::fs::Files;
 use tokens::fault;
@@ -39,8 +38,8 @@ fn read_words(path: &[u8], out: &mut [u16]) -> Words
     ensures { Fit result (length out.new) }
 {
     match readpath::read_path(path, out) {
-        PathReading::Words(n) => Words::Are(n as usize),
-        PathReading::Refused(r) => Words::Bad(fault_of(r.number)),
+        Ok(n) => Words::Are(n as usize),
+        Err(r) => Words::Bad(fault_of(r.number)),
     }
 }
 

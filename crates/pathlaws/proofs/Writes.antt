@@ -8,7 +8,7 @@ use native.Mathlib.Omega.{arith}
 use lib.Dec.{leb}
 use lib.ListN.{length}
 use borrow.Author.Tests.{leb-true, le-leb}
-use Rattle.defs.specs.declared.Writing.TheVariants.{Written}
+use Rattle.std.specs.Prelude.{Ok}
 use Rattle.defs.specs.Meaning.Limits.{most_coordinate}
 use Rattle.defs.specs.Meaning.Question.{Question7}
 use Rattle.defs.specs.Computing.Test.{all}
@@ -105,6 +105,6 @@ path_written o s e =
     let q : Question7 o = (question_7 o).0 s in
     written o (length o / 2 - 1) (omega (arith, q.even, q.words.at_least)) (omega (arith, q.words.at_least)) (omega (arith, q.words.at_most)) e
 
-pub written_is : (o : List ℕ) (bytes : ℕ) → q7b o ≡ true → q8b o ≡ true → path_size o ≤ bytes → write_path_answer o bytes ≡ Written (path_size o)
+pub written_is : (o : List ℕ) (bytes : ℕ) → q7b o ≡ true → q8b o ≡ true → path_size o ≤ bytes → write_path_answer o bytes ≡ Ok (path_size o)
 unfolding write_path_answer
 written_is o bytes s e l = rw (s, e, le-leb (path_size o) bytes l)

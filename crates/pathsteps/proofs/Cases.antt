@@ -10,51 +10,46 @@ use lib.ListN.{length, get_or, drop}
 use lib.Seq.{get_or-drop}
 use lib.Ieee.{Float, binary32, of_bits}
 use borrow.Author.Tests.{le-ltb, lt-ltb, le-leb, lt-leb, eq-eqb, ne_eqb}
+use Rattle.std.specs.Prelude.{Option, Some, None}
 use Rattle.defs.specs.Computing.Test.{ask}
 use Rattle.pathdefs.specs.Computing.Paths.{bits_at, units_of, acceptedb}
 use Rattle.pathdefs.specs.declared.Point.{Point}
 use Rattle.pathdefs.specs.declared.Step.{Step}
 use Rattle.pathdefs.specs.declared.Step.TheVariants.{Move, Line, Close}
-use Rattle.millimetres.specs.declared.Units.{Units}
-use Rattle.millimetres.specs.declared.Units.TheVariants.{Whole, Other as NotWhole}
 use Rattle.millimetres.specs.Exact.{units_in}
 use Rattle.millimetres.proofs.Values.{bits_units}
-use Rattle.pathsteps.specs.declared.Found.{Found}
-use Rattle.pathsteps.specs.declared.Found.TheVariants.{At, Nothing}
-use Rattle.pathsteps.specs.declared.Vertex.{Vertex}
-use Rattle.pathsteps.specs.declared.Vertex.TheVariants.{At as VertexAt, Other}
 use Rattle.pathsteps.specs.Found.{float_at, point_at, step_at, vertex_by, vertex_of, vertex_in, kind_of, kind_in, kind_at, vertex_found, VertexStep, vertex_here}
 
 module _ (b : List ℕ) (at : ℕ) where
-  pub past_end : length b ≤ at → Nothing ≡ step_at b at
+  pub past_end : length b ≤ at → None ≡ step_at b at
   unfolding step_at
   past_end h = rw (le-ltb at (length b) h)
 
   module _ (h : at < length b) where
-    pub is_close : get_or b at 0 ≡ 3 → At Close ≡ step_at b at
+    pub is_close : get_or b at 0 ≡ 3 → Some Close ≡ step_at b at
     unfolding step_at
     is_close e = rw (lt-ltb at (length b) h, eq-eqb (get_or b at 0) 3 e)
 
     module _ (n3 : get_or b at 0 ≡ 3 → ⊥) where
-      pub is_cut : length b - at < 9 → Nothing ≡ step_at b at
+      pub is_cut : length b - at < 9 → None ≡ step_at b at
       unfolding step_at
       is_cut l = rw (lt-ltb at (length b) h, ne_eqb (get_or b at 0) 3 n3, lt-leb (at + 9) (length b) (omega (arith, l, h)))
 
       module _ (l : 9 ≤ length b - at) where
-        pub is_move : {p : Point} → p ≡ point_at b (at + 1) → get_or b at 0 ≡ 1 → At (Move p.x p.y) ≡ step_at b at
+        pub is_move : {p : Point} → p ≡ point_at b (at + 1) → get_or b at 0 ≡ 1 → Some (Move p.x p.y) ≡ step_at b at
         unfolding step_at
         is_move e k =
-            ap (λ (p : Point). At (Move p.x p.y)) e ∙
+            ap (λ (p : Point). Some (Move p.x p.y)) e ∙
             rw (lt-ltb at (length b) h, ne_eqb (get_or b at 0) 3 n3, le-leb (at + 9) (length b) (omega (arith, l, h)), eq-eqb (get_or b at 0) 1 k)
 
         module _ (n1 : get_or b at 0 ≡ 1 → ⊥) where
-          pub is_line : {p : Point} → p ≡ point_at b (at + 1) → get_or b at 0 ≡ 2 → At (Line p.x p.y) ≡ step_at b at
+          pub is_line : {p : Point} → p ≡ point_at b (at + 1) → get_or b at 0 ≡ 2 → Some (Line p.x p.y) ≡ step_at b at
           unfolding step_at
           is_line e k =
-              ap (λ (p : Point). At (Line p.x p.y)) e ∙
+              ap (λ (p : Point). Some (Line p.x p.y)) e ∙
               rw (lt-ltb at (length b) h, ne_eqb (get_or b at 0) 3 n3, le-leb (at + 9) (length b) (omega (arith, l, h)), ne_eqb (get_or b at 0) 1 n1, eq-eqb (get_or b at 0) 2 k)
 
-          pub is_nothing : (get_or b at 0 ≡ 2 → ⊥) → Nothing ≡ step_at b at
+          pub is_nothing : (get_or b at 0 ≡ 2 → ⊥) → None ≡ step_at b at
           unfolding step_at
           is_nothing n2 =
               rw (lt-ltb at (length b) h, ne_eqb (get_or b at 0) 3 n3, le-leb (at + 9) (length b) (omega (arith, l, h)), ne_eqb (get_or b at 0) 1 n1, ne_eqb (get_or b at 0) 2 n2)
@@ -62,15 +57,15 @@ module _ (b : List ℕ) (at : ℕ) where
 pub same_point : {x y u v : Float} → x ≡ u → y ≡ v → ◌≡◌ {A = Point} (record { x = x; y = y }) (record { x = u; y = v })
 same_point e f = rw (e, f)
 
-module _ (x y : Float) {a b : Units} (ea : a ≡ units_in x) (eb : b ≡ units_in y) where
-  pub both : {k l : ℕ} → a ≡ Whole k → b ≡ Whole l → VertexAt k l ≡ vertex_of x y
-  both e f = sym (ap (λ (u : Units). vertex_by u (units_in y)) (sym ea ∙ e) ∙ ap (vertex_by (Whole _)) (sym eb ∙ f))
+module _ (x y : Float) {a b : Option ℕ} (ea : a ≡ units_in x) (eb : b ≡ units_in y) where
+  pub both : {k l : ℕ} → a ≡ Some k → b ≡ Some l → Some (k, l) ≡ vertex_of x y
+  both e f = sym (ap (λ (u : Option ℕ). vertex_by u (units_in y)) (sym ea ∙ e) ∙ ap (vertex_by (Some _)) (sym eb ∙ f))
 
-  pub not_second : {k : ℕ} → a ≡ Whole k → b ≡ NotWhole → Other ≡ vertex_of x y
-  not_second e f = sym (ap (λ (u : Units). vertex_by u (units_in y)) (sym ea ∙ e) ∙ ap (vertex_by (Whole _)) (sym eb ∙ f))
+  pub not_second : {k : ℕ} → a ≡ Some k → b ≡ None → None ≡ vertex_of x y
+  not_second e f = sym (ap (λ (u : Option ℕ). vertex_by u (units_in y)) (sym ea ∙ e) ∙ ap (vertex_by (Some _)) (sym eb ∙ f))
 
-  pub not_first : a ≡ NotWhole → Other ≡ vertex_of x y
-  not_first e = sym (ap (λ (u : Units). vertex_by u (units_in y)) (sym ea ∙ e))
+  pub not_first : a ≡ None → None ≡ vertex_of x y
+  not_first e = sym (ap (λ (u : Option ℕ). vertex_by u (units_in y)) (sym ea ∙ e))
 
 -- the coordinates of the step with which a part of the path begins
 pub bits_drop : (b : List ℕ) (at i j : ℕ) → at + i ≡ j → bits_at b j ≡ bits_at (drop at b) i
@@ -83,12 +78,12 @@ bits_drop b at i j e =
 
 -- accepted or not, by bits
 by_bits : (s t : Bool) (k l : ℕ) →
-    vertex_by (ask s NotWhole (λ _. Whole k)) (ask t NotWhole (λ _. Whole l)) ≡ ask (s && t) Other (λ _. VertexAt k l)
+    vertex_by (ask s None (λ _. Some k)) (ask t None (λ _. Some l)) ≡ ask (s && t) None (λ _. Some (k, l))
 by_bits true true k l = refl
 by_bits true false k l = refl
 by_bits false t k l = refl
 
-vertex_bits : (n m : ℕ) → vertex_of (of_bits binary32 n) (of_bits binary32 m) ≡ ask (acceptedb n && acceptedb m) Other (λ _. VertexAt (units_of n) (units_of m))
+vertex_bits : (n m : ℕ) → vertex_of (of_bits binary32 n) (of_bits binary32 m) ≡ ask (acceptedb n && acceptedb m) None (λ _. Some ((units_of n), (units_of m)))
 vertex_bits n m = rw (bits_units n, bits_units m) (by_bits (acceptedb n) (acceptedb m) (units_of n) (units_of m))
 
 pub vertex_is : (b : List ℕ) (at : ℕ) → VertexStep b at → vertex_found (step_at b at) ≡ vertex_here (drop at b)
@@ -107,17 +102,17 @@ vertex_is b at d =
     ]
 
 -- what is found of a step, by the step
-module _ (b : List ℕ) (at : ℕ) {f : Found} (ef : f ≡ step_at b at) where
-  pub kind_found : {s : Step} {n : ℕ} → f ≡ At s → n ≡ kind_of s → n ≡ kind_at b at
+module _ (b : List ℕ) (at : ℕ) {f : Option Step} (ef : f ≡ step_at b at) where
+  pub kind_found : {s : Step} {n : ℕ} → f ≡ Some s → n ≡ kind_of s → n ≡ kind_at b at
   kind_found e h = h ∙ ap kind_in (sym e ∙ ef)
 
-  pub kind_none : f ≡ Nothing → 0 ≡ kind_at b at
+  pub kind_none : f ≡ None → 0 ≡ kind_at b at
   kind_none e = ap kind_in (sym e ∙ ef)
 
-  pub vertex_found_lem : VertexStep b at → {s : Step} {v : Vertex} → f ≡ At s → v ≡ vertex_in s → v ≡ vertex_here (drop at b)
+  pub vertex_found_lem : VertexStep b at → {s : Step} {v : Option (ℕ × ℕ)} → f ≡ Some s → v ≡ vertex_in s → v ≡ vertex_here (drop at b)
   vertex_found_lem d e h = h ∙ ap vertex_found (sym e ∙ ef) ∙ vertex_is b at d
 
-  pub vertex_none : VertexStep b at → f ≡ Nothing → Other ≡ vertex_here (drop at b)
+  pub vertex_none : VertexStep b at → f ≡ None → None ≡ vertex_here (drop at b)
   vertex_none d e = ap vertex_found (sym e ∙ ef) ∙ vertex_is b at d
 
 -- the byte of a step is its kind, where there is a step

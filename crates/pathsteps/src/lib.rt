@@ -5,7 +5,6 @@ ghost use Rattle.std.specs.Prelude.{◌≡◌, ◌+◌, ◌<◌, length, drop};
 ghost use Rattle.pathdefs.specs.Computing.Paths.{bits_at};
 ghost use Rattle.pathsteps.specs.Found.{point_at, step_at, kind_of, kind_at, vertex_of, vertex_in, VertexStep, vertex_here};
 
-use millimetres::Units;
 use pathdefs::{Point, Step};
 
 // "Each one byte: 1 move, 2 line, 3 close."
@@ -17,20 +16,6 @@ pub const CLOSE: u8 = 3;
 
 // The bytes of a move or a line.
 pub const STEP_BYTES: usize = 9;
-
-// The step at a byte of a path, or nothing: another byte, or coordinates cut short.
-#[derive(Clone, Copy)]
-pub enum Found {
-    At(Step),
-    Nothing,
-}
-
-// The outline's vertex that a point is, or none: a coordinate is not accepted.
-#[derive(Clone, Copy)]
-pub enum Vertex {
-    At(u16, u16),
-    Other,
-}
 
 fn wide(x: u8) -> u32
     ensures { (result ≡ x) × (result < 256) }
@@ -59,27 +44,27 @@ pub fn point_at(path: &[u8], at: usize) -> Point
     Point { x: x, y: y }
 }
 
-pub fn step_at(path: &[u8], at: usize) -> Found
+pub fn step_at(path: &[u8], at: usize) -> Option<Step>
     ensures { result ≡ step_at path.now at }
 {
     if path.len() <= at {
-        return Found::Nothing;
+        return None;
     }
     let kind = path[at];
     if kind == CLOSE {
-        return Found::At(Step::Close);
+        return Some(Step::Close);
     }
     if path.len() - at < STEP_BYTES {
-        return Found::Nothing;
+        return None;
     }
     let p = point_at(path, at + 1);
     if kind == MOVE {
-        return Found::At(Step::Move { x: p.x, y: p.y });
+        return Some(Step::Move { x: p.x, y: p.y });
     }
     if kind == LINE {
-        return Found::At(Step::Line { x: p.x, y: p.y });
+        return Some(Step::Line { x: p.x, y: p.y });
     }
-    Found::Nothing
+    None
 }
 
 fn kind_of(s: Step) -> u8
@@ -93,27 +78,27 @@ fn kind_of(s: Step) -> u8
 }
 
 // A point in units, where both coordinates are accepted.
-pub fn converted(p: Point) -> Vertex
+pub fn converted(p: Point) -> Option<(u16, u16)>
     ensures { result ≡ vertex_of p.x p.y }
 {
     let a = millimetres::units_of(p.x);
     let b = millimetres::units_of(p.y);
     match a {
-        Units::Whole(x) => match b {
-            Units::Whole(y) => Vertex::At(x, y),
-            Units::Other => Vertex::Other,
+        Some(x) => match b {
+            Some(y) => Some((x, y)),
+            None => None,
         },
-        Units::Other => Vertex::Other,
+        None => None,
     }
 }
 
-fn vertex_of(s: Step) -> Vertex
+fn vertex_of(s: Step) -> Option<(u16, u16)>
     ensures { result ≡ vertex_in s }
 {
     match s {
         Step::Move { x, y } => converted(Point { x: x, y: y }),
         Step::Line { x, y } => converted(Point { x: x, y: y }),
-        Step::Close => Vertex::Other,
+        Step::Close => None,
     }
 }
 
@@ -122,18 +107,18 @@ pub fn kind_at(path: &[u8], at: usize) -> u8
     ensures { result ≡ kind_at path.now at }
 {
     match step_at(path, at) {
-        Found::At(s) => kind_of(s),
-        Found::Nothing => 0,
+        Some(s) => kind_of(s),
+        None => 0,
     }
 }
 
 // The vertex of the move or the line at a byte of a path.
-pub fn vertex_at(path: &[u8], at: usize) -> Vertex
+pub fn vertex_at(path: &[u8], at: usize) -> Option<(u16, u16)>
     requires { VertexStep path.now at }
     ensures { result ≡ vertex_here (drop at path.now) }
 {
     match step_at(path, at) {
-        Found::At(s) => vertex_of(s),
-        Found::Nothing => Vertex::Other,
+        Some(s) => vertex_of(s),
+        None => None,
     }
 }

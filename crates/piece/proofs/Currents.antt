@@ -6,24 +6,17 @@ use Prim.Native.Nat.{ℕ, ◌*◌, ◌-◌}
 use native.Mathlib.Omega.{arith}
 use lib.ListN.{length}
 use lib.Seq.{sets}
+use Rattle.std.specs.Prelude.{Result, Ok, Err}
 use Rattle.defs.specs.declared.Position.{Position}
 use Rattle.defs.specs.declared.Refusal.{Refusal}
-use Rattle.defs.specs.declared.Fate.{Fate}
-use Rattle.defs.specs.declared.Placing.{Placing}
-use Rattle.defs.specs.declared.Placing.TheVariants.{Placed, Refused}
 use Rattle.defs.specs.Answer.{fate_words}
 use Rattle.defs.specs.Computing.Lay.{fate_of, held_after}
+use Rattle.laws.proofs.Granted.{no_grant, same_grant}
 use Rattle.position.specs.Table.{Tabled, NextIf, PlacedOn}
 use Rattle.fates.specs.declared.Tally.{Tally}
 use Rattle.fates.specs.Fates.{edge_of, tallied}
 use Rattle.piece.specs.Boards.{Roomy, Boards, Turns}
 use Rattle.piece.specs.Pieces.{PlaceFits, PlacedBy, PieceLaid}
-
-same_place : {p q : Position} → Placed p ≡ Placed q → p ≡ q
-same_place e = cc
-
-not_placed : {r : Refusal} {q : Position} → ¬ (Refused r ≡ Placed q)
-not_placed e = let z : ◌≡◌ {A = ℕ} 0 1 = cc in omega arith
 
 module _ {f l h f₂ l₂ h₂ : List ℕ} {W R N g Q : ℕ} where
   pub tabled : Boards false f l h f₂ l₂ h₂ W R N g Q → Tabled f l h f₂ l₂ h₂ W R N g Q
@@ -48,18 +41,18 @@ module _ {f l h f₂ l₂ h₂ : List ℕ} {W R N g Q : ℕ} where
 
 -- the answer of place on the first table: a piece that is placed makes the other table current
 module _ (f l h f₂ l₂ h₂ f₂' l₂' h₂' o : List ℕ) (W R N g Q : ℕ) where
-  next_fits : (a : Placing) → NextIf f l h f₂' l₂' h₂' o W R N g Q a → PlaceFits W R N o a
-  next_fits (Placed p) n =
+  next_fits : (a : Result Position Refusal) → NextIf f l h f₂' l₂' h₂' o W R N g Q a → PlaceFits W R N o a
+  next_fits (Ok p) n =
       record {
-        turn = λ q e. rw (same_place e) at n.turn;
-        on_strip = λ q e. rw (same_place e) at n.on_strip;
+        turn = λ q e. rw (same_grant e) at n.turn;
+        on_strip = λ q e. rw (same_grant e) at n.on_strip;
       }
-  next_fits (Refused r) n = record { turn = λ q e. absurd (not_placed e); on_strip = λ q e. absurd (not_placed e) }
+  next_fits (Err r) n = record { turn = λ q e. absurd (no_grant e); on_strip = λ q e. absurd (no_grant e) }
 
-  next_turns : (a : Placing) → Boards false f l h f₂ l₂ h₂ W R N g Q → Roomy f₂' l₂' h₂' →
+  next_turns : (a : Result Position Refusal) → Boards false f l h f₂ l₂ h₂ W R N g Q → Roomy f₂' l₂' h₂' →
       NextIf f l h f₂' l₂' h₂' o W R N g Q a → Turns false f l h f₂ l₂ h₂ f l h f₂' l₂' h₂' o W R N g Q a
   unfolding held_after
-  next_turns (Placed p) x r n =
+  next_turns (Ok p) x r n =
       record {
         boards =
             record {
@@ -72,13 +65,13 @@ module _ (f l h f₂ l₂ h₂ f₂' l₂' h₂' o : List ℕ) (W R N g Q : ℕ)
             };
         held = n.is;
       }
-  next_turns (Refused q) x r n =
+  next_turns (Err q) x r n =
       record {
         boards = record { limits = x.limits; gap = x.gap; records = x.records; room = x.room; room₂ = r; current = x.current };
         held = refl;
       }
 
-pub placed_first : {f l h f₂ l₂ h₂ f₂' l₂' h₂' o : List ℕ} {W R N g Q mask words : ℕ} {a : Placing} → Boards false f l h f₂ l₂ h₂ W R N g Q →
+pub placed_first : {f l h f₂ l₂ h₂ f₂' l₂' h₂' o : List ℕ} {W R N g Q mask words : ℕ} {a : Result Position Refusal} → Boards false f l h f₂ l₂ h₂ W R N g Q →
     Roomy f₂' l₂' h₂' → PlacedOn f l h f₂' l₂' h₂' o W R N g Q mask words a →
     PlacedBy false f l h f₂ l₂ h₂ f l h f₂' l₂' h₂' o W R N g Q mask words a
 placed_first {f} {l} {h} {f₂} {l₂} {h₂} {f₂'} {l₂'} {h₂'} {o} {W} {R} {N} {g} {Q} {a = a} x r on =
@@ -89,12 +82,12 @@ placed_first {f} {l} {h} {f₂} {l₂} {h₂} {f₂'} {l₂'} {h₂'} {o} {W} {R
     }
 
 -- on the second table, by the first
-swapped_turns : {f l h f₂ l₂ h₂ f' l' h' f₂' l₂' h₂' o : List ℕ} {W R N g Q : ℕ} (a : Placing) →
+swapped_turns : {f l h f₂ l₂ h₂ f' l' h' f₂' l₂' h₂' o : List ℕ} {W R N g Q : ℕ} (a : Result Position Refusal) →
     Turns false f₂ l₂ h₂ f l h f₂' l₂' h₂' f' l' h' o W R N g Q a → Turns true f l h f₂ l₂ h₂ f' l' h' f₂' l₂' h₂' o W R N g Q a
-swapped_turns (Placed p) t = record { boards = swapped t.boards; held = t.held }
-swapped_turns (Refused r) t = record { boards = swapped_back t.boards; held = t.held }
+swapped_turns (Ok p) t = record { boards = swapped t.boards; held = t.held }
+swapped_turns (Err r) t = record { boards = swapped_back t.boards; held = t.held }
 
-pub placed_second : {f l h f₂ l₂ h₂ f' l' h' o : List ℕ} {W R N g Q mask words : ℕ} {a : Placing} → Boards true f l h f₂ l₂ h₂ W R N g Q →
+pub placed_second : {f l h f₂ l₂ h₂ f' l' h' o : List ℕ} {W R N g Q mask words : ℕ} {a : Result Position Refusal} → Boards true f l h f₂ l₂ h₂ W R N g Q →
     Roomy f' l' h' → PlacedOn f₂ l₂ h₂ f' l' h' o W R N g Q mask words a → PlacedBy true f l h f₂ l₂ h₂ f' l' h' f₂ l₂ h₂ o W R N g Q mask words a
 placed_second {a = a} x r on =
     let p = placed_first (swapped x) r on in
@@ -110,15 +103,15 @@ module _
     {f l h f₂ l₂ h₂ f' l' h' f₂' l₂' h₂' out out' o : List ℕ}
     {W R N g Q mask words : ℕ}
     {t t' : Tally}
-    {a : Placing}
+    {a : Result Position Refusal}
     {e : ℕ}
-    {fate : Fate}
+    {fate : Result Position ℕ}
     (x : PlacedBy t.second f l h f₂ l₂ h₂ f' l' h' f₂' l₂' h₂' o W R N g Q mask words a) where
   pub piece_laid : fate ≡ fate_of a → out' ≡ sets out (4 * (t.ordinal - 1)) (fate_words fate) → e ≡ edge_of R o a → t' ≡ tallied t a e →
       PieceLaid f l h f₂ l₂ h₂ f' l' h' f₂' l₂' h₂' out out' o W R N g Q mask words t t'
   piece_laid ef eo ee et =
       record {
         turns = subst (Turns t.second f l h f₂ l₂ h₂ f' l' h' f₂' l₂' h₂' o W R N g Q) x.answer x.turns;
-        output = eo ∙ ap (λ (f : Fate). sets out (4 * (t.ordinal - 1)) (fate_words f)) (ef ∙ ap fate_of x.answer);
-        tally = et ∙ ap (tallied t a) ee ∙ ap (λ (b : Placing). tallied t b (edge_of R o b)) x.answer;
+        output = eo ∙ ap (λ (f : Result Position ℕ). sets out (4 * (t.ordinal - 1)) (fate_words f)) (ef ∙ ap fate_of x.answer);
+        tally = et ∙ ap (tallied t a) ee ∙ ap (λ (b : Result Position Refusal). tallied t b (edge_of R o b)) x.answer;
       }

@@ -1,6 +1,7 @@
 -- Two tables of runs that take turns: one is current, and a piece that is placed is entered into the other. Assumes nothing.
-use Rattle.std.specs.Prelude.{◌≡◌, Bool, true, false, List, ℕ, ◌≤◌, length}
-use Rattle.defs.specs.declared.Placing.{Placing}
+use Rattle.std.specs.Prelude.{◌≡◌, Bool, true, false, List, ℕ, ◌≤◌, length, Result}
+use Rattle.defs.specs.declared.Position.{Position}
+use Rattle.defs.specs.declared.Refusal.{Refusal}
 use Rattle.defs.specs.Meaning.Strip.{Limits}
 use Rattle.defs.specs.Computing.Cells.{Rows}
 use Rattle.defs.specs.Computing.Lay.{held_after}
@@ -37,7 +38,7 @@ pub record Boards (second : Bool) (f l h f₂ l₂ h₂ : List ℕ) (W R N g Q :
   pub current : Current second f l h f₂ l₂ h₂ W N Q
 
 -- the tables after an answer: the current one has the piece where it is placed
-pub record Turns (second : Bool) (f l h f₂ l₂ h₂ f' l' h' f₂' l₂' h₂' : List ℕ) (o : List ℕ) (W R N g Q : ℕ) (a : Placing) : Type 0 where
+pub record Turns (second : Bool) (f l h f₂ l₂ h₂ f' l' h' f₂' l₂' h₂' : List ℕ) (o : List ℕ) (W R N g Q : ℕ) (a : Result Position Refusal) : Type 0 where
   pub boards : Boards (turned second a) f' l' h' f₂' l₂' h₂' W R N g Q
   pub held :
       held_by (turned second a) f' l' h' f₂' l₂' h₂' N ≡ held_after W R g (held_by second f l h f₂ l₂ h₂ N) o a

@@ -15,7 +15,6 @@ ghost use Rattle.piece.specs.Pieces.{PlacedBy, PieceLaid};
 use defs::{Entry, Figures, PlacingTries};
 use fates::Tally;
 use outline::Bounds;
-use records::Chain;
 use search::Way;
 
 // Places the outline on the current table, where no free position has its right edge before `lower`; the other one has it entered
@@ -163,7 +162,7 @@ pub fn lay_piece(
     let piece = reader::visit(sheet, v + at);
     let mut words = [0u16; numbers::MOST_WORDS];
     match records::gather(sheet, v, piece.first, &mut words) {
-        Chain::Whole(n) => {
+        Some(n) => {
             let e = 2 * n;
             lay_outline(
                 g,
@@ -183,6 +182,6 @@ pub fn lay_piece(
                 work,
             )
         }
-        Chain::Broken => t,
+        None => t,
     }
 }

@@ -11,6 +11,7 @@ use Rattle.records.proofs.Refusals.{no_end, no_on, no_here}
 use Rattle.cutlist.specs.Pieces.{ChainEnds}
 use Rattle.pieceno.specs.Refused.{NoneRefused, FirstRefused}
 use Rattle.cutlist.proofs.Along.{Along, next_piece, rest, along_start, along_end, along_left, along_rest, along_next}
+use Rattle.defs.specs.Computing.Calls.{refusal}
 
 -- the k - 1 pieces before passed
 pub record Asking (b : List ℕ) (v at left k : ℕ) : Type 0 where
@@ -34,7 +35,7 @@ module _ {b : List ℕ} {v at left k : ℕ} (s : Asking b v at left k) (p : 0 < 
         same = step ∙ no_on (sheet_piece_no b) k at (rest b (left - 1) (next_piece b at)) (sym en ∙ z);
       })
 
-  pub ask_stop : {n : ℕ} → n ≡ sheet_piece_no b at → (n ≡ 0 → ⊥) → FirstRefused b n k
+  pub ask_stop : {n : ℕ} → n ≡ sheet_piece_no b at → (n ≡ 0 → ⊥) → FirstRefused b (refusal n k)
   ask_stop en h =
       rw en (record { is = step ∙ no_here (sheet_piece_no b) k at (rest b (left - 1) (next_piece b at)) (λ z. h (en ∙ z)) })
 

@@ -7,7 +7,8 @@ ghost use Rattle.defs.specs.Computing.Sheets.{sheet_piece_no};
 ghost use Rattle.cutlist.specs.Pieces.{PieceAt, ChainEnds};
 ghost use Rattle.pieceno.specs.Refused.{Asked};
 
-use records::Chain;
+use defs::Refusal;
+
 
 // The first of questions 7 to 11 that gets "no" for piece record `at`, else 0. The outline is lent from a local.
 fn piece_no(sheet: &[u8], v: usize, at: usize) -> u16
@@ -19,22 +20,16 @@ fn piece_no(sheet: &[u8], v: usize, at: usize) -> u16
     let mask = piece.second;
     let mut words = [0u16; numbers::MOST_WORDS];
     match records::gather(sheet, v, piece.first, &mut words) {
-        Chain::Whole(n) => {
+        Some(n) => {
             let e = 2 * n;
             asked::outline_no(&words[..e], checks::nine(mask), mask)
         }
-        Chain::Broken => 7,
+        None => 7,
     }
 }
 
-#[derive(Clone, Copy)]
-pub enum No {
-    Pass,
-    At(u16, u16),
-}
-
 // Questions 7 to 11, piece by piece: the first that gets "no", with the piece's place in the chain.
-pub fn first_no(sheet: &[u8], v: usize) -> No
+pub fn first_no(sheet: &[u8], v: usize) -> Result<(), Refusal>
     requires fact_1 { ChainEnds sheet.now v }
     requires fact_2 { 1 ≤ sheet_r sheet.now }
     ensures { Asked sheet.now result }
@@ -45,11 +40,11 @@ pub fn first_no(sheet: &[u8], v: usize) -> No
     while 0 < at {
         let n = piece_no(sheet, v, at);
         if n != 0 {
-            return No::At(n, k);
+            return Err(Refusal { number: n, ordinal: k });
         }
         at = reader::visit(sheet, v + at).next as usize;
         left -= 1;
         k += 1;
     }
-    No::Pass
+    Ok(())
 }

@@ -4,7 +4,6 @@
 ghost use Rattle.std.specs.Prelude.{length};
 ghost use Rattle.position.specs.Table.{Tabled, CountedOn};
 
-use checks::Checked;
 use defs::{Figures, PlacingTries};
 use search::Way;
 
@@ -30,8 +29,8 @@ pub fn place_on(
 {
     let ninth = checks::nine(mask);
     match asked::order(o, ninth, mask) {
-        Checked::No(n) => position::untried(n, 1),
-        Checked::Passes(b) => position::place_asked(
+        Err(n) => position::untried(n, 1),
+        Ok(b) => position::place_asked(
             g, gap, q, first, lows, highs, o, b, mask, way, 0, work, first2, lows2, highs2,
         ),
     }

@@ -9,9 +9,9 @@ use Prim.Native.Nat.{ℕ, ◌*◌, ◌/◌, ◌≤◌, ◌<◌}
 use native.Mathlib.Omega.{arith}
 use lib.Dec.{eqb}
 use borrow.Author.Tests.{ne_eqb, le-leb, lt-leb, not-true}
+use Rattle.std.specs.Prelude.{Option, Some, None, Result, Ok, Err}
+use Rattle.defs.specs.declared.Refusal.{Refusal}
 use Rattle.defs.specs.declared.Position.{Position}
-use Rattle.defs.specs.declared.Placing.{Placing}
-use Rattle.defs.specs.declared.Placing.TheVariants.{Placed, Refused}
 use Rattle.defs.specs.declared.PlacingTries.{PlacingTries}
 use Rattle.defs.specs.Meaning.Question.{Question10, Question12}
 use Rattle.defs.specs.Computing.Test.{ask}
@@ -34,8 +34,6 @@ use Rattle.search.specs.declared.Way.{Way}
 use Rattle.search.specs.declared.Way.TheVariants.{Walk as ByWalk, Round}
 use Rattle.ranks.specs.declared.Tried.{Tried}
 use Rattle.ranks.specs.declared.Ranked.{Ranked}
-use Rattle.ranks.specs.declared.Choice.{Choice}
-use Rattle.ranks.specs.declared.Choice.TheVariants.{Chosen, Nowhere}
 use Rattle.best.specs.Choice.{place_of, Ready, TriesAre, TurnsTo}
 use Rattle.best.proofs.Choices.{tries_same}
 use Rattle.position.specs.Table.{Tabled, Enterable, EntersAt, PlacedOn, CountedOn}
@@ -43,7 +41,7 @@ use Rattle.position.specs.Table.{Tabled, Enterable, EntersAt, PlacedOn, CountedO
 module _ (W R N g Q : ℕ) (held : List (List Rows)) (o : List ℕ) (mask words : ℕ) where
   -- a "no" before 13, and so no tries
   abbrev pub Untried : ℕ → Type 0
-  Untried n = (Refused (refusal n 1) ≡ place_on W R N g Q held o mask words) × (tries_on W R N g held o mask words ≡ 0)
+  Untried n = (Err (refusal n 1) ≡ place_on W R N g Q held o mask words) × (tries_on W R N g held o mask words ≡ 0)
 
   outline_no_lem : {n : ℕ} → outline_no o (q9b mask) mask R ≡ n → n ≢ 0 → Untried n
   unfolding place_on tries_on
@@ -98,28 +96,28 @@ module _ (W R N g Q : ℕ) (held : List (List Rows)) (o : List ℕ) (mask words 
         tries_on_lem = tries_same way _ _ _ (sym all_tries) (tried.tries (omega arith))
 
         -- the definition's best position is that of the choice
-        best_is : (c : Choice) → s.best ≡ c → best_below W R N g held o mask 4 ≡ place_of c
+        best_is : (c : Option Ranked) → s.best ≡ c → best_below W R N g held o mask 4 ≡ place_of c
         best_is c e = sym (tried.best (omega arith)).is ∙ ap place_of e
 
-        pub thirteen : s.best ≡ Nowhere → Refused (refusal 13 1) ≡ place_on W R N g Q held o mask words
+        pub thirteen : s.best ≡ None → Err (refusal 13 1) ≡ place_on W R N g Q held o mask words
         unfolding choose
-        thirteen e = sym (chosen ∙ ap (choose W R g Q held o) (best_is Nowhere e))
+        thirteen e = sym (chosen ∙ ap (choose W R g Q held o) (best_is None e))
 
-        pub fourteen : (b : Ranked) → s.best ≡ Chosen b →
-            (ask (q14b W R g Q held o b.at) (Refused (refusal 14 1)) λ _. Placed b.at) ≡ place_on W R N g Q held o mask words
+        pub fourteen : (b : Ranked) → s.best ≡ Some b →
+            (ask (q14b W R g Q held o b.at) (Err (refusal 14 1)) λ _. Ok b.at) ≡ place_on W R N g Q held o mask words
         unfolding choose
-        fourteen b e = sym (chosen ∙ ap (choose W R g Q held o) (best_is (Chosen b) e))
+        fourteen b e = sym (chosen ∙ ap (choose W R g Q held o) (best_is (Some b) e))
 
         -- the position is on the strip, and the work buffer has room for the runs of its turn
         pub enterable : {f l h : List ℕ} {n words' : ℕ} {x : Bounds} (b : Ranked) → held ≡ table_of f l h N → Laid f l h W N n →
-            BoundsOf o x → s.best ≡ Chosen b → words' ≡ words → Enterable f l h o W R N g x words' b.at
+            BoundsOf o x → s.best ≡ Some b → words' ≡ words → Enterable f l h o W R N g x words' b.at
         unfolding Question10 Question12
         enterable {f} {l} {h} b eh laid bounds e same =
             let q10 = (question_10 o mask).0 y.ten in
             let side = has_side o ((question_7 o).0 y.seven) in
             let best =
             best_found W R N g held o mask q10 side Rpos (rw eh (table_flat laid)) b.at
-            (best_is (Chosen b) e) in
+            (best_is (Some b) e) in
             let keeps = q10 b.at.turn best.fits.allowed in
             let few = (question_12 o mask R q10 side Rpos g words).0 room b.at.turn best.fits.allowed in
             record {
@@ -140,14 +138,14 @@ pub refused_to_ten : (o : List ℕ) (mask : ℕ) {ninth : Bool} {r : ℕ} → ni
 refused_to_ten o mask e f n = some_no o (q9b mask) mask (f ∙ ap (λ (b : Bool). order_no o b mask) e) n
 
 -- a refusal leaves no next table
-pub refused_on : {f l h f' l' h' o : List ℕ} {W R N g Q mask words number : ℕ} {a : Placing} → a ≡ Refused (refusal number 1) →
-    Refused (refusal number 1) ≡ place_on W R N g Q (table_of f l h N) o mask words →
+pub refused_on : {f l h f' l' h' o : List ℕ} {W R N g Q mask words number : ℕ} {a : Result Position Refusal} → a ≡ Err (refusal number 1) →
+    Err (refusal number 1) ≡ place_on W R N g Q (table_of f l h N) o mask words →
     PlacedOn f l h f' l' h' o W R N g Q mask words a
 refused_on e q = rw e (record { answer = q; next = tt })
 
-pub placed_on : {f l h f' l' h' o : List ℕ} {W R N g Q mask words : ℕ} {a : Placing} (p : Position) →
+pub placed_on : {f l h f' l' h' o : List ℕ} {W R N g Q mask words : ℕ} {a : Result Position Refusal} (p : Position) →
     EntersAt f l h f' l' h' o W R N g Q p a →
-    (ask (q14b W R g Q (table_of f l h N) o p) (Refused (refusal 14 1)) λ _. Placed p) ≡ place_on W R N g Q (table_of f l h N) o mask words →
+    (ask (q14b W R g Q (table_of f l h N) o p) (Err (refusal 14 1)) λ _. Ok p) ≡ place_on W R N g Q (table_of f l h N) o mask words →
     PlacedOn f l h f' l' h' o W R N g Q mask words a
 placed_on p e q = record { answer = e.answer ∙ q; next = e.next }
 
@@ -157,7 +155,7 @@ no_tries ByWalk n e = sym e
 no_tries Round n e = tt
 
 pub untried_on : {f l h f' l' h' o : List ℕ} {W R N g Q mask words number : ℕ} (way : Way) {a : PlacingTries} →
-    a ≡ record { placing = Refused (refusal number 1); tries = 0 } → Untried W R N g Q (table_of f l h N) o mask words number →
+    a ≡ record { placing = Err (refusal number 1); tries = 0 } → Untried W R N g Q (table_of f l h N) o mask words number →
     CountedOn f l h f' l' h' o W R N g Q mask words way a.placing a.tries
 untried_on way e q = rw e (record { placed = refused_on refl q.0; counted = no_tries way _ q.1 })
 

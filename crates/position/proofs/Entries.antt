@@ -7,9 +7,9 @@ use Prim.Native.Nat.{ℕ, ◌*◌, ◌≤◌}
 use native.Mathlib.Omega.{arith}
 use lib.ListN.{length}
 use borrow.Author.Tests.{le-leb, lt-leb}
+use Rattle.std.specs.Prelude.{Result, Ok, Err}
+use Rattle.defs.specs.declared.Refusal.{Refusal}
 use Rattle.defs.specs.declared.Position.{Position}
-use Rattle.defs.specs.declared.Placing.{Placing}
-use Rattle.defs.specs.declared.Placing.TheVariants.{Placed, Refused}
 use Rattle.defs.specs.Computing.Test.{ask}
 use Rattle.defs.specs.Computing.Cells.{piece_runs, count_runs}
 use Rattle.defs.specs.Computing.Search.{entered}
@@ -76,23 +76,23 @@ module _
             );
       }
 
-  answered : (a : Bool) → q14b W R g Q (table_of f l h N) o p ≡ a → (b : Placing) →
-      b ≡ (ask a (Refused (refusal 14 1)) λ _. Placed p) →
-      b ≡ (ask (q14b W R g Q (table_of f l h N) o p) (Refused (refusal 14 1)) λ _. Placed p)
+  answered : (a : Bool) → q14b W R g Q (table_of f l h N) o p ≡ a → (b : Result Position Refusal) →
+      b ≡ (ask a (Err (refusal 14 1)) λ _. Ok p) →
+      b ≡ (ask (q14b W R g Q (table_of f l h N) o p) (Err (refusal 14 1)) λ _. Ok p)
   answered a e b q = rw e q
 
   pub placed : {f₂ l₂ h₂ : List ℕ} {t : ℕ} → Entered f l h work f₂ l₂ h₂ target t →
-      EntersAt f l h f₂ l₂ h₂ o W R N g Q p (Placed p)
+      EntersAt f l h f₂ l₂ h₂ o W R N g Q p (Ok p)
   unfolding entered q14b
   placed {f₂} {l₂} {h₂} {t} e =
       let is = e.table (piece_runs o p.turn R g) stand (runs_apart o p.turn R g) p.turn in
       let count = sym (ap count_runs is) ∙ count_is e.laid.flat in
       record {
-        answer = answered true (le-leb _ Q (omega (arith, count, e.few))) (Placed p) refl;
+        answer = answered true (le-leb _ Q (omega (arith, count, e.few))) (Ok p) refl;
         next = record { count = t; laid = e.laid; few = e.few; is = is; turn = at.turn; on_strip = at.on_strip };
       }
 
-  pub full : {f₂ l₂ h₂ : List ℕ} {a : Placing} → TooMany f l h work target → a ≡ Refused (refusal 14 1) →
+  pub full : {f₂ l₂ h₂ : List ℕ} {a : Result Position Refusal} → TooMany f l h work target → a ≡ Err (refusal 14 1) →
       EntersAt f l h f₂ l₂ h₂ o W R N g Q p a
   unfolding entered q14b
   full m e =
@@ -100,6 +100,6 @@ module _
       (record {
         answer =
             answered false (lt-leb _ Q (m.more (piece_runs o p.turn R g) stand (runs_apart o p.turn R g) p.turn))
-            (Refused (refusal 14 1)) refl;
+            (Err (refusal 14 1)) refl;
         next = tt;
       })

@@ -1,8 +1,7 @@
 -- A piece placed on a table of runs laid flat. Assumes nothing.
-use Rattle.std.specs.Prelude.{◌≡◌, List, ℕ, ◌*◌, ◌≤◌, length}
+use Rattle.std.specs.Prelude.{◌≡◌, List, ℕ, ◌*◌, ◌≤◌, length, Result, Ok, Err}
+use Rattle.defs.specs.declared.Refusal.{Refusal}
 use Rattle.defs.specs.declared.Position.{Position}
-use Rattle.defs.specs.declared.Placing.{Placing}
-use Rattle.defs.specs.declared.Placing.TheVariants.{Placed, Refused}
 use Rattle.defs.specs.Meaning.Outline.{KeepsOrder}
 use Rattle.defs.specs.Meaning.Turn.{turned}
 use Rattle.defs.specs.Meaning.Strip.{Limits}
@@ -37,9 +36,9 @@ pub record Next (f l h f' l' h' o : List ℕ) (W R N g Q : ℕ) (p : Position) :
   pub turn : p.turn ≤ 3
   pub on_strip : OnStrip W R N o p
 
-abbrev pub NextIf : (f l h f' l' h' o : List ℕ) (W R N g Q : ℕ) → Placing → Type 0
-NextIf f l h f' l' h' o W R N g Q (Placed p) = Next f l h f' l' h' o W R N g Q p
-NextIf f l h f' l' h' o W R N g Q (Refused r) = Unit {0}
+abbrev pub NextIf : (f l h f' l' h' o : List ℕ) (W R N g Q : ℕ) → Result Position Refusal → Type 0
+NextIf f l h f' l' h' o W R N g Q (Ok p) = Next f l h f' l' h' o W R N g Q p
+NextIf f l h f' l' h' o W R N g Q (Err r) = Unit {0}
 
 -- an outline with a position on the strip, and a work buffer with room for the runs of its turn
 pub record Enterable (f l h o : List ℕ) (W R N g : ℕ) (b : Bounds) (words : ℕ) (p : Position) : Type 0 where
@@ -51,15 +50,15 @@ pub record Enterable (f l h o : List ℕ) (W R N g : ℕ) (b : Bounds) (words : 
   pub room : 3 * count_runs (piece_runs o p.turn R g) ≤ words
 
 -- question 14 of a position, and the next table
-pub record EntersAt (f l h f' l' h' o : List ℕ) (W R N g Q : ℕ) (p : Position) (a : Placing) : Type 0 where
-  pub answer : a ≡ (ask (q14b W R g Q (table_of f l h N) o p) (Refused (refusal 14 1)) λ _. Placed p)
+pub record EntersAt (f l h f' l' h' o : List ℕ) (W R N g Q : ℕ) (p : Position) (a : Result Position Refusal) : Type 0 where
+  pub answer : a ≡ (ask (q14b W R g Q (table_of f l h N) o p) (Err (refusal 14 1)) λ _. Ok p)
   pub next : NextIf f l h f' l' h' o W R N g Q a
 
-pub record PlacedOn (f l h f' l' h' o : List ℕ) (W R N g Q mask words : ℕ) (a : Placing) : Type 0 where
+pub record PlacedOn (f l h f' l' h' o : List ℕ) (W R N g Q mask words : ℕ) (a : Result Position Refusal) : Type 0 where
   pub answer : a ≡ place_on W R N g Q (table_of f l h N) o mask words
   pub next : NextIf f l h f' l' h' o W R N g Q a
 
 -- the same, with n tries
-pub record CountedOn (f l h f' l' h' o : List ℕ) (W R N g Q mask words : ℕ) (way : Way) (a : Placing) (n : ℕ) : Type 0 where
+pub record CountedOn (f l h f' l' h' o : List ℕ) (W R N g Q mask words : ℕ) (way : Way) (a : Result Position Refusal) (n : ℕ) : Type 0 where
   pub placed : PlacedOn f l h f' l' h' o W R N g Q mask words a
   pub counted : TriesAre way n (tries_on W R N g (table_of f l h N) o mask words)

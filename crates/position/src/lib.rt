@@ -15,30 +15,20 @@ ghost use Rattle.best.specs.Choice.{Kept};
 ghost use Rattle.asked.proofs.InOrder.{Ordered};
 ghost use Rattle.position.specs.Table.{Tabled, Enterable, EntersAt, CountedOn};
 
-use defs::{Figures, Placing, PlacingTries, Position, Refusal};
-use enter::Entering;
+use defs::{Figures, PlacingTries, Position, Refusal, refused};
 use outline::Bounds;
-use ranks::{Choice, Standing};
+use ranks::Standing;
 use search::Way;
 
 // Runs of the next table, and of a column that is being entered.
 pub const NEXT_RUNS: usize = 24001;
 
-pub fn refused(number: u16, ordinal: u16) -> Placing
-    ensures { result ≡ Placing.Refused (record { number = number; ordinal = ordinal }) }
-{
-    Placing::Refused(Refusal {
-        number: number,
-        ordinal: ordinal,
-    })
-}
-
 // Refused before anything was tried.
 pub fn untried(number: u16, ordinal: u16) -> PlacingTries
-    ensures { result ≡ record { placing = Placing.Refused (record { number = number; ordinal = ordinal }); tries = 0 } }
+    ensures { result ≡ record { placing = Err (record { number = number; ordinal = ordinal }); tries = 0 } }
 {
     PlacingTries {
-        placing: Placing::Refused(Refusal {
+        placing: Err(Refusal {
             number: number,
             ordinal: ordinal,
         }),
@@ -86,7 +76,7 @@ pub fn enter_at(
     first2: &mut [u16],
     lows2: &mut [u16],
     highs2: &mut [u16],
-) -> Placing
+) -> Result<Position, Refusal>
     requires fact_1 { Tabled first.now lows.now highs.now first2.old lows2.old highs2.old g.width g.resolution g.columns gap q }
     requires fact_2 { Enterable first.now lows.now highs.now o.now g.width g.resolution g.columns gap b (length work.old) p }
     requires fact_3 { Kept o.now g.resolution gap work.old s.turn s.runs }
@@ -102,8 +92,8 @@ pub fn enter_at(
         height: p.height,
     };
     match enter::enter(first, lows, highs, work, at, first2, lows2, highs2) {
-        Entering::Runs(t) => Placing::Placed(p),
-        Entering::Full => refused(14, 1),
+        Some(t) => Ok(p),
+        None => refused(14, 1),
     }
 }
 
@@ -143,13 +133,13 @@ pub fn place_asked(
     let c = s.best;
     let d = s.stands;
     match c {
-        Choice::Chosen(r) => PlacingTries {
+        Some(r) => PlacingTries {
             placing: enter_at(
                 g, gap, q, first, lows, highs, o, b, r.at, d, work, first2, lows2, highs2,
             ),
             tries: s.tries,
         },
-        Choice::Nowhere => PlacingTries {
+        None => PlacingTries {
             placing: refused(13, 1),
             tries: s.tries,
         },

@@ -7,15 +7,14 @@ use native.Mathlib.Omega.{arith}
 use native.Mathlib.Nat.{mul-le-mul}
 use lib.Dec.{ltb}
 use borrow.Author.Tests.{eq-eqb, ne_eqb, le-ltb}
+use Rattle.std.specs.Prelude.{Option, Some, None}
 use Rattle.defs.specs.Meaning.Placing.{columns_for}
 use Rattle.ranks.specs.Ranks.{beats_by, better_by, merged}
 use Rattle.ranks.specs.declared.Ranked.{Ranked}
-use Rattle.ranks.specs.declared.Choice.{Choice}
-use Rattle.ranks.specs.declared.Choice.TheVariants.{Chosen, Nowhere}
 use Rattle.ranks.specs.declared.Standing.{Standing}
 use Rattle.ranks.specs.declared.Tried.{Tried}
 
-abbrev tried : Standing → ℕ → ℕ → Choice → Tried
+abbrev tried : Standing → ℕ → ℕ → Option Ranked → Tried
 tried d k n c = record { most = n; best = c; tries = k; stands = d }
 
 pub equal_edge : (q p : Ranked) → q.right ≡ p.right → ltb q.top p.top ≡ beats_by q p
@@ -29,24 +28,24 @@ other_edge q p n = rw (ne_eqb q.right p.right n) (or_false (ltb q.right p.right)
     or_false false = refl
 
 -- the greater of two numbers of runs
-pub second_most : (s x : Tried) (c : Choice) → c ≡ better_by s.best x.best → s.most < x.most →
+pub second_most : (s x : Tried) (c : Option Ranked) → c ≡ better_by s.best x.best → s.most < x.most →
     ◌≡◌ {A = Tried} (record { most = x.most; best = c; tries = s.tries + x.tries; stands = x.stands }) (merged s x)
 second_most s x c e l = ap₂ (tried x.stands (s.tries + x.tries)) (omega arith) e
 
-pub first_most : (s x : Tried) (c : Choice) → c ≡ better_by s.best x.best → x.most ≤ s.most →
+pub first_most : (s x : Tried) (c : Option Ranked) → c ≡ better_by s.best x.best → x.most ≤ s.most →
     ◌≡◌ {A = Tried} (record { most = s.most; best = c; tries = s.tries + x.tries; stands = x.stands }) (merged s x)
 first_most s x c e l = ap₂ (tried x.stands (s.tries + x.tries)) (omega arith) e
 
 -- a better choice, by the tests that were made
-pub better_second : {a b : Choice} {p q : Ranked} {r : Bool} → a ≡ Chosen p → b ≡ Chosen q → r ≡ beats_by q p → r ≡ true →
-    Chosen q ≡ better_by a b
+pub better_second : {a b : Option Ranked} {p q : Ranked} {r : Bool} → a ≡ Some p → b ≡ Some q → r ≡ beats_by q p → r ≡ true →
+    Some q ≡ better_by a b
 better_second e g f y = rw (e, g, sym f, y) refl
 
-pub better_first : {a b : Choice} {p q : Ranked} {r : Bool} → a ≡ Chosen p → b ≡ Chosen q → r ≡ beats_by q p → r ≡ false →
-    Chosen p ≡ better_by a b
+pub better_first : {a b : Option Ranked} {p q : Ranked} {r : Bool} → a ≡ Some p → b ≡ Some q → r ≡ beats_by q p → r ≡ false →
+    Some p ≡ better_by a b
 better_first e g f y = rw (e, g, sym f, y) refl
 
-pub better_only : {a b : Choice} {q : Ranked} → a ≡ Nowhere → b ≡ Chosen q → Chosen q ≡ better_by a b
+pub better_only : {a b : Option Ranked} {q : Ranked} → a ≡ None → b ≡ Some q → Some q ≡ better_by a b
 better_only e g = rw (e, g) refl
 
 -- numbers of 16 bits have a right edge of 32

@@ -18,12 +18,6 @@ pub struct Ranked {
     pub top: u16,
 }
 
-#[derive(Clone, Copy)]
-pub enum Choice {
-    Chosen(Ranked),
-    Nowhere,
-}
-
 // The turn whose runs were put into the work buffer last, over 3 where none was, and how many they are.
 #[derive(Clone, Copy)]
 pub struct Standing {
@@ -35,7 +29,7 @@ pub struct Standing {
 #[derive(Clone, Copy)]
 pub struct Tried {
     pub most: usize,
-    pub best: Choice,
+    pub best: Option<Ranked>,
     pub tries: u32,
     pub stands: Standing,
 }
@@ -51,18 +45,18 @@ fn beats(q: Ranked, p: Ranked) -> bool
 }
 
 // The better of two; a tie goes to the first.
-fn better(a: Choice, b: Choice) -> Choice
+fn better(a: Option<Ranked>, b: Option<Ranked>) -> Option<Ranked>
     ensures { result ≡ better_by a b }
 {
     match b {
-        Choice::Nowhere => a,
-        Choice::Chosen(q) => match a {
-            Choice::Nowhere => Choice::Chosen(q),
-            Choice::Chosen(p) => {
+        None => a,
+        Some(q) => match a {
+            None => Some(q),
+            Some(p) => {
                 if beats(q, p) {
-                    Choice::Chosen(q)
+                    Some(q)
                 } else {
-                    Choice::Chosen(p)
+                    Some(p)
                 }
             }
         },
@@ -95,12 +89,12 @@ pub fn merge(s: Tried, x: Tried) -> Tried
 }
 
 // The greatest right edge of a position that may win against the choice.
-pub fn limit_of(c: Choice) -> u32
+pub fn limit_of(c: Option<Ranked>) -> u32
     ensures { result ≡ limit_of c }
 {
     match c {
-        Choice::Chosen(r) => r.right,
-        Choice::Nowhere => NO_EDGE,
+        Some(r) => r.right,
+        None => NO_EDGE,
     }
 }
 

@@ -7,7 +7,7 @@ ghost use Rattle.words.specs.Put.{Put};
 ghost use Rattle.readable.specs.Words.{vertex_text};
 ghost use Rattle.readable.specs.Room.{PieceRoom, RoomOf};
 
-use defs::{Figures, Reading};
+use defs::Figures;
 
 // The text of every sheet fits.
 pub const TEXT_ROOM: usize = 160000;
@@ -117,8 +117,8 @@ fn show_lent(sheet: &[u8], gap: u16, list: &mut [u16], out: &mut [u8]) -> usize
     ensures { result ≤ length out.new }
 {
     match reads::read(sheet, list) {
-        Reading::Read(f) => put_list(out, f, gap, list),
-        Reading::Refused(r) => {
+        Ok(f) => put_list(out, f, gap, list),
+        Err(r) => {
             let a = print::put_refusal(out, r);
             print::end_line(out, a)
         }

@@ -7,10 +7,10 @@ use native.Mathlib.Omega.{arith}
 use native.Mathlib.Nat.{zero-add}
 use lib.ListN.{length, take, drop, set, length-set}
 use lib.Seq.{sets, sets-eq, take-append_seam}
+use Rattle.std.specs.Prelude.{Option, Some, None}
+use Rattle.std.proofs.lemmas.Option.{none-some, some_pair_parts}
 use Rattle.defs.specs.Computing.Test.{ask}
 use Rattle.pathdefs.specs.Computing.Paths.{bits_at, units_of, acceptedb, acceptsb, vertices_in, q20b, vertex_units, path_words}
-use Rattle.pathsteps.specs.declared.Vertex.{Vertex}
-use Rattle.pathsteps.specs.declared.Vertex.TheVariants.{At, Other}
 use Rattle.pathsteps.specs.Found.{vertex_here}
 use Rattle.readpath.specs.Passed.{Shaped, Accepts}
 use Rattle.readpath.proofs.Lines.{next_drop}
@@ -19,35 +19,26 @@ use Rattle.readpath.proofs.Lines.{next_drop}
 abbrev both : List ℕ → Bool
 both b = acceptedb (bits_at b 1) && acceptedb (bits_at b 5)
 
-other_vertex : {x y : ℕ} → Other ≡ At x y → ⊥
-other_vertex e = let z : ◌≡◌ {A = ℕ} 0 1 = cc in omega arith
-
-same_x : {x y u v : ℕ} → At x y ≡ At u v → x ≡ u
-same_x e = cc
-
-same_y : {x y u v : ℕ} → At x y ≡ At u v → y ≡ v
-same_y e = cc
-
 -- what the vertex says of its coordinates
 pub record Here (b : List ℕ) (x y : ℕ) : Type 0 where
   pub accepted : both b ≡ true
   pub is_x : x ≡ units_of (bits_at b 1)
   pub is_y : y ≡ units_of (bits_at b 5)
 
-pub vertex_here_lem : (b : List ℕ) {x y : ℕ} {v : Vertex} → v ≡ vertex_here b → v ≡ At x y → Here b x y
+pub vertex_here_lem : (b : List ℕ) {x y : ℕ} {v : Option (ℕ × ℕ)} → v ≡ vertex_here b → v ≡ Some (x, y) → Here b x y
 unfolding vertex_here
 vertex_here_lem b {x} {y} {v} e f = go (both b) refl (sym e ∙ f)
   where
-    go : (t : Bool) → both b ≡ t → ask t Other (λ _. At (units_of (bits_at b 1)) (units_of (bits_at b 5))) ≡ At x y → Here b x y
-    go true t h = record { accepted = t; is_x = sym (same_x h); is_y = sym (same_y h) }
-    go false t h = absurd (other_vertex h)
+    go : (t : Bool) → both b ≡ t → ask {A = Option (ℕ × ℕ)} t None (λ _. Some (units_of (bits_at b 1), units_of (bits_at b 5))) ≡ Some (x, y) → Here b x y
+    go true t h = record { accepted = t; is_x = sym (some_pair_parts _ _ _ _ h).0; is_y = sym (some_pair_parts _ _ _ _ h).1 }
+    go false t h = absurd (none-some _ h)
 
-pub vertex_other : (b : List ℕ) {v : Vertex} → v ≡ vertex_here b → v ≡ Other → both b ≡ false
+pub vertex_other : (b : List ℕ) {v : Option (ℕ × ℕ)} → v ≡ vertex_here b → v ≡ None → both b ≡ false
 unfolding vertex_here
 vertex_other b {v} e f = go (both b) refl (sym e ∙ f)
   where
-    go : (t : Bool) → both b ≡ t → ask t Other (λ _. At (units_of (bits_at b 1)) (units_of (bits_at b 5))) ≡ Other → both b ≡ false
-    go true t h = absurd (other_vertex (sym h))
+    go : (t : Bool) → both b ≡ t → ask {A = Option (ℕ × ℕ)} t None (λ _. Some (units_of (bits_at b 1), units_of (bits_at b 5))) ≡ None → both b ≡ false
+    go true t h = absurd (none-some _ (sym h))
     go false t h = t
 
 accepts_step : (b : List ℕ) (m i : ℕ) → both (drop (9 * i) b) ≡ true → acceptsb (suc m) (drop (9 * i) b) ≡ acceptsb m (drop (9 * (i + 1)) b)
@@ -72,7 +63,7 @@ module _ {b w₀ w : List ℕ} {n i : ℕ} (s : Keeping b w₀ w n i) (h : i < n
   left : n - i ≡ suc (n - (i + 1))
   left = omega (arith, h)
 
-  pub keeping_next : {x y : ℕ} {v : Vertex} → v ≡ vertex_here (drop (9 * i) b) → v ≡ At x y →
+  pub keeping_next : {x y : ℕ} {v : Option (ℕ × ℕ)} → v ≡ vertex_here (drop (9 * i) b) → v ≡ Some (x, y) →
       Keeping b w₀ (set (set w (2 * i) x) (2 * i + 1) y) n (i + 1)
   unfolding vertex_units
   keeping_next {x} {y} e f =
@@ -86,7 +77,7 @@ module _ {b w₀ w : List ℕ} {n i : ℕ} (s : Keeping b w₀ w n i) (h : i < n
         rest = rw (a, c, v.is_x, v.is_y, sym (next_drop b i)) (ap (λ (m : ℕ). sets w (2 * i) (vertex_units m (drop (9 * i) b))) (sym left) ∙ s.rest);
       }
 
-  pub keeping_not : {v : Vertex} → Shaped b n → v ≡ vertex_here (drop (9 * i) b) → v ≡ Other → Accepts b n false w
+  pub keeping_not : {v : Option (ℕ × ℕ)} → Shaped b n → v ≡ vertex_here (drop (9 * i) b) → v ≡ None → Accepts b n false w
   unfolding q20b
   keeping_not t e f =
       record {

@@ -1,9 +1,7 @@
 -- What is known of a path after each of its questions. Assumes nothing.
-use Rattle.std.specs.Prelude.{◌≡◌, Bool, true, false, List, ℕ, ◌+◌, ◌*◌, ◌≤◌, length, take}
+use Rattle.std.specs.Prelude.{◌≡◌, Bool, true, false, List, ℕ, ◌+◌, ◌*◌, ◌≤◌, length, take, Option, Some, None}
 use Rattle.pathdefs.specs.Meaning.Path.{step_bytes}
 use Rattle.pathdefs.specs.Computing.Paths.{vertices_in, q19b, q20b, path_words}
-use Rattle.readpath.specs.declared.Shape.{Shape}
-use Rattle.readpath.specs.declared.Shape.TheVariants.{Vertices, Other}
 
 -- as long as a path of n vertices
 pub record Long (b : List ℕ) (n : ℕ) : Type 0 where
@@ -19,9 +17,9 @@ pub record Shaped (b : List ℕ) (n : ℕ) : Type 0 where
 pub record Unshaped (b : List ℕ) : Type 0 where
   pub fails : q19b b ≡ false
 
-abbrev pub Shapes : List ℕ → Shape → Type 0
-Shapes b (Vertices n) = Shaped b n
-Shapes b Other = Unshaped b
+abbrev pub Shapes : List ℕ → Option ℕ → Type 0
+Shapes b (Some n) = Shaped b n
+Shapes b None = Unshaped b
 
 -- 20 is answered; where it is passed, the words of n vertices stand at the start
 pub record Accepts (b : List ℕ) (n : ℕ) (r : Bool) (words : List ℕ) : Type 0 where

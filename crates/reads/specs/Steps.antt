@@ -1,15 +1,10 @@
 -- What is known of a sheet after each of its questions.
 -- Assumes nothing.
-use Rattle.std.specs.Prelude.{◌≡◌, Bool, true, List, ℕ, length}
-use Rattle.std.proofs.Math.Option.{some}
+use Rattle.std.specs.Prelude.{◌≡◌, Bool, true, List, ℕ, length, Option, Some, None, Result, Ok, Err}
+use Rattle.defs.specs.declared.Refusal.{Refusal}
 use Rattle.defs.specs.Meaning.Sheet.{sheet_w, sheet_r, sheet_n}
 use Rattle.defs.specs.Computing.Words.{limits_no, gapb, lengthb}
-use Rattle.defs.specs.Computing.Calls.{refusal}
 use Rattle.defs.specs.Computing.Sheets.{q1b, q2b, q6b, piece_records, sheet_no}
-use Rattle.reads.specs.declared.Strip.{Strip}
-use Rattle.reads.specs.declared.Strip.TheVariants.{NotLent, Lent}
-use Rattle.reads.specs.declared.Job.{Job}
-use Rattle.reads.specs.declared.Job.TheVariants.{Pieces, No as Refused}
 use Rattle.pieceno.specs.Refused.{NoneRefused}
 
 -- 1 to 3, 16 and 17 are passed
@@ -30,23 +25,23 @@ pub record Passed (b : List ℕ) (count : ℕ) : Type 0 where
   pub none_no : NoneRefused b
 
 -- 21 and 4 are asked where a strip is lent
-abbrev pub gap_of : Strip → Bool
-gap_of NotLent = true
-gap_of (Lent g n) = gapb g
+abbrev pub gap_of : Option (ℕ × ℕ) → Bool
+gap_of None = true
+gap_of (Some (g, n)) = gapb g
 
-abbrev pub fourth_of : Strip → ℕ → Bool
-fourth_of NotLent N = true
-fourth_of (Lent g n) N = lengthb N n
+abbrev pub fourth_of : Option (ℕ × ℕ) → ℕ → Bool
+fourth_of None N = true
+fourth_of (Some (g, n)) N = lengthb N n
 
 pub record JobPasses (b : List ℕ) (gap fourth : Bool) (count : ℕ) : Type 0 where
   pub passed : Passed b count
   pub gap_fits : gap ≡ true
   pub four : fourth ≡ true
 
-pub record JobRefused (b : List ℕ) (gap fourth : Bool) (n k : ℕ) : Type 0 where
-  pub is : sheet_no b gap fourth ≡ some (refusal n k)
+pub record JobRefused (b : List ℕ) (gap fourth : Bool) (r : Refusal) : Type 0 where
+  pub is : sheet_no b gap fourth ≡ Some r
 
 -- the first "no" of the sheet's questions, or that all are passed
-abbrev pub JobAsked : List ℕ → Bool → Bool → Job → Type 0
-JobAsked b gap fourth (Pieces n) = JobPasses b gap fourth n
-JobAsked b gap fourth (Refused n k) = JobRefused b gap fourth n k
+abbrev pub JobAsked : List ℕ → Bool → Bool → Result ℕ Refusal → Type 0
+JobAsked b gap fourth (Ok n) = JobPasses b gap fourth n
+JobAsked b gap fourth (Err r) = JobRefused b gap fourth r

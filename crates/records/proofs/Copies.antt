@@ -7,6 +7,7 @@ use Prim.Native.Nat.{ℕ, suc, ◌+◌, ◌-◌, ◌*◌, ◌≤◌, ◌<◌}
 use native.Mathlib.Omega.{arith}
 use lib.ListN.{length, set, take}
 use lib.Seq.{sets, sets-eq, length-sets, take_at}
+use Rattle.std.specs.Prelude.{Option, Some, None}
 use Rattle.defs.specs.Meaning.Limits.{most_vertices, most_pieces}
 use Rattle.defs.specs.Meaning.Sheet.{sheet_v, sheet_p, first_piece, piece_number, vertex_number, vertex_words}
 use Rattle.defs.specs.Computing.Test.{chain_by, ends_by}
@@ -14,19 +15,17 @@ use Rattle.defs.specs.Computing.Sheets.{q6b, piece_records, piece_of, vertices_o
 use Rattle.laws.proofs.Walks.{chain_step, chain_zero}
 use Rattle.laws.proofs.SheetChains.{length-vertex_words}
 use Rattle.sheets.proofs.Chains.{Ends, Ill, Walk, walk_start, walk_next, walk_end, chain_more}
-use Rattle.records.specs.declared.Chain.{Chain}
-use Rattle.records.specs.declared.Chain.TheVariants.{Whole, Broken}
 use Rattle.reader.specs.Records.{record_number}
 use Rattle.records.specs.Records.{Chains, PieceChains, next_vertex, Gathered}
 
 -- question 6
-pub piece_chains : (b : List ℕ) (v p f : ℕ) (r : Chain) → v ≡ sheet_v b → p ≡ sheet_p b → f ≡ first_piece b →
+pub piece_chains : (b : List ℕ) (v p f : ℕ) (r : Option ℕ) → v ≡ sheet_v b → p ≡ sheet_p b → f ≡ first_piece b →
     Chains (λ x. record_number b (v + x) 2) p most_pieces f r → PieceChains b r
 unfolding q6b piece_records
-piece_chains b v p f (Whole k) e g h c =
+piece_chains b v p f (Some k) e g h c =
     let d : Ends (λ x. record_number b (sheet_v b + x) 2) (sheet_p b) most_pieces (first_piece b) k = rw (e, g, h) at c in
     record { passes = d.ends; long = d.long }
-piece_chains b v p f Broken e g h c =
+piece_chains b v p f None e g h c =
     let d : Ill (λ x. record_number b (sheet_v b + x) 2) (sheet_p b) most_pieces (first_piece b) = rw (e, g, h) at c in
     record { fails = d.ill }
 

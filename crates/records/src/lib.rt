@@ -8,15 +8,9 @@ ghost use Rattle.records.specs.Records.{Chains, PieceChains, Gathers};
 
 pub const MOST_PIECES: usize = 200;
 
-#[derive(Clone, Copy)]
-pub enum Chain {
-    Whole(usize),
-    Broken,
-}
-
 // The chain from record `first` of the records after `base` others: whether it stays in 1 to `most` and ends within `limit`, and
 // how many records it has. The count bounds it, so a loop is broken too.
-pub fn follow(sheet: &[u8], base: usize, most: usize, first: u16, limit: usize) -> Chain
+pub fn follow(sheet: &[u8], base: usize, most: usize, first: u16, limit: usize) -> Option<usize>
     requires { 16 + 6 * (base + most) ≤ length sheet.now }
     ensures { Chains (λ x. record_number sheet.now (base + x) 2) most limit first result }
 {
@@ -24,19 +18,19 @@ pub fn follow(sheet: &[u8], base: usize, most: usize, first: u16, limit: usize) 
     let mut left = limit;
     while 0 < at {
         if left == 0 {
-            return Chain::Broken;
+            return None;
         }
         if most < at {
-            return Chain::Broken;
+            return None;
         }
         at = reader::visit(sheet, base + at).next as usize;
         left -= 1;
     }
-    Chain::Whole(limit - left)
+    Some(limit - left)
 }
 
 // Question 6, with the number of pieces.
-pub fn piece_chain(sheet: &[u8]) -> Chain
+pub fn piece_chain(sheet: &[u8]) -> Option<usize>
     requires { 16 + 6 * (sheet_v sheet.now + sheet_p sheet.now) ≤ length sheet.now }
     ensures { PieceChains sheet.now result }
 {
@@ -52,7 +46,7 @@ pub fn gather(
     vertices: usize,
     first: u16,
     words: &mut [u16; numbers::MOST_WORDS],
-) -> Chain
+) -> Option<usize>
     requires { 16 + 6 * vertices ≤ length sheet.now }
     ensures { Gathers sheet.now vertices first words.old words.new result }
 {
@@ -60,10 +54,10 @@ pub fn gather(
     let mut k: usize = 0;
     while 0 < at {
         if numbers::MOST_VERTICES <= k {
-            return Chain::Broken;
+            return None;
         }
         if vertices < at {
-            return Chain::Broken;
+            return None;
         }
         let n = reader::visit(sheet, at);
         words[2 * k] = n.first;
@@ -71,5 +65,5 @@ pub fn gather(
         at = n.next as usize;
         k += 1;
     }
-    Chain::Whole(k)
+    Some(k)
 }

@@ -3,12 +3,11 @@
 use mathlib.Core.Path.{◌≡◌, sym, ap, ap₂, ◌∙◌}
 use mathlib.Core.Bool.{Bool, true, false, cond}
 use mathlib.Core.List.{List}
-use mathlib.Core.Option.{Option, none, some}
 use Prim.Native.Nat.{ℕ, suc, ◌+◌, ◌*◌, ◌-◌, ◌<◌}
 use native.Mathlib.Omega.{arith}
+use Rattle.std.specs.Prelude.{Option, Some, None, Result, Err}
+use Rattle.defs.specs.declared.Refusal.{Refusal}
 use Rattle.defs.specs.declared.EdgePair.{EdgePair}
-use Rattle.defs.specs.declared.Retracing.{Retracing}
-use Rattle.defs.specs.declared.Retracing.TheVariants.{Refused as NotTraced}
 use Rattle.defs.specs.Meaning.Outline.{vx, vy, sides, after, edge_at, edge_between}
 use Rattle.defs.specs.Computing.Test.{first_from}
 use Rattle.defs.specs.Computing.Calls.{refusal}
@@ -31,7 +30,7 @@ edge_is o i j n l en ej e =
 
 -- the search for a later edge that shares a stretch with edge i, and for the first edge that has one
 abbrev pub later_shared : List ℕ → ℕ → ℕ → Option ℕ
-later_shared o i j = cond (sharesb (edge_at o i) (edge_at o j)) (some j) none
+later_shared o i j = cond (sharesb (edge_at o i) (edge_at o j)) (Some j) None
 
 abbrev pub pair_at : List ℕ → ℕ → Option EdgePair
 pair_at o i = numbered i (shared_after o i)
@@ -51,24 +50,24 @@ module _ {o : List ℕ} {i j xl yl xr yr Xl Yl Xr Yr : ℕ} {b : Bool} (d : Edge
   tested : sharesb (edge_at o i) (edge_at o j) ≡ b
   tested = sym (r ∙ ap₂ sharesb d.is f.is)
 
-  pub not_shared : b ≡ false → later_shared o i j ≡ none
-  not_shared e = ap (λ (t : Bool). cond t (some j) none) (tested ∙ e)
+  pub not_shared : b ≡ false → later_shared o i j ≡ None
+  not_shared e = ap (λ (t : Bool). cond t (Some j) None) (tested ∙ e)
 
-  pub is_shared : b ≡ true → later_shared o i j ≡ some j
-  is_shared e = ap (λ (t : Bool). cond t (some j) none) (tested ∙ e)
+  pub is_shared : b ≡ true → later_shared o i j ≡ Some j
+  is_shared e = ap (λ (t : Bool). cond t (Some j) None) (tested ∙ e)
 
 -- what was found after edge i, as a pair
-pub pair_found : (o : List ℕ) (i j : ℕ) → shared_after o i ≡ some j → pair_at o i ≡ some (record { first = i + 1; second = j + 1 })
+pub pair_found : (o : List ℕ) (i j : ℕ) → shared_after o i ≡ Some j → pair_at o i ≡ Some (record { first = i + 1; second = j + 1 })
 pair_found o i j h = ap (numbered i) h
 
-pub pair_none : (o : List ℕ) (i : ℕ) → shared_after o i ≡ none → pair_at o i ≡ none
+pub pair_none : (o : List ℕ) (i : ℕ) → shared_after o i ≡ None → pair_at o i ≡ None
 pair_none o i h = ap (numbered i) h
 
 -- the call
-module _ {o : List ℕ} {a : Retracing} where
-  pub refused_no : {n : ℕ} → n ≡ bounds_no o → 0 < n → a ≡ NotTraced (refusal n 1) → RetraceStep o a
+module _ {o : List ℕ} {a : Result (Option EdgePair) Refusal} where
+  pub refused_no : {n : ℕ} → n ≡ bounds_no o → 0 < n → a ≡ Err (refusal n 1) → RetraceStep o a
   unfolding retrace_answer
-  refused_no h l e = record { answer = e ∙ first_no_lem o (λ n. NotTraced (refusal n 1)) (traced (first_pair o)) h l }
+  refused_no h l e = record { answer = e ∙ first_no_lem o (λ n. Err (refusal n 1)) (traced (first_pair o)) h l }
 
   pub looked : bounds_no o ≡ 0 → a ≡ traced (first_pair o) → RetraceStep o a
   unfolding retrace_answer

@@ -1,11 +1,8 @@
 -- What the functions of the retrace call promise. Assumes nothing.
-use Rattle.std.specs.Prelude.{◌≡◌, List, ℕ, ◌<◌}
-use Rattle.std.proofs.Math.Option.{none, some}
+use Rattle.std.specs.Prelude.{◌≡◌, List, ℕ, ◌<◌, Option, Some, None}
 use Rattle.defs.specs.Meaning.Outline.{edge_at, sides}
 use Rattle.outline.specs.Vertex.{Small, edge_of}
 use Rattle.strokes.specs.Retrace.{shared_after}
-use Rattle.retrace.specs.declared.Later.{Later}
-use Rattle.retrace.specs.declared.Later.TheVariants.{Edge, None}
 
 -- edge i of the outline as it is lent, the left end first
 pub record EdgeIs (o : List ℕ) (i xl yl xr yr : ℕ) : Type 0 where
@@ -13,6 +10,6 @@ pub record EdgeIs (o : List ℕ) (i xl yl xr yr : ℕ) : Type 0 where
   pub small : Small xl yl xr yr
 
 -- the first later edge that shares a stretch with edge i
-abbrev pub After : List ℕ → ℕ → Later → Type 0
-After o i (Edge j) = (shared_after o i ≡ some j) × (j < sides o)
-After o i None = shared_after o i ≡ none
+abbrev pub After : List ℕ → ℕ → Option ℕ → Type 0
+After o i (Some j) = (shared_after o i ≡ Some j) × (j < sides o)
+After o i None = shared_after o i ≡ None

@@ -7,8 +7,7 @@ ghost use Rattle.outline.specs.Vertex.{Lent, Small, edge_of};
 ghost use Rattle.strokes.specs.Retrace.{rise_alike, level, run_along, stand_along, sharesb, traced, first_pair, RetraceStep};
 ghost use Rattle.retrace.specs.Edges.{EdgeIs, After};
 
-use checks::Checked;
-use defs::{EdgePair, Refusal, Retracing};
+use defs::{EdgePair, Refusal, refused};
 use outline::{Side, Vertex};
 
 // Whether two edges rise alike.
@@ -104,14 +103,8 @@ pub fn edge(o: &[u16], i: usize) -> Side
     outline::side_of(u, v)
 }
 
-#[derive(Clone, Copy)]
-pub enum Later {
-    Edge(usize),
-    None,
-}
-
 // The first edge after edge i that shares a stretch with it.
-fn shared_after(o: &[u16], i: usize) -> Later
+fn shared_after(o: &[u16], i: usize) -> Option<usize>
     requires fact_1 { Lent o.now }
     requires fact_2 { i < sides o.now }
     ensures { After o.now i result }
@@ -122,25 +115,25 @@ fn shared_after(o: &[u16], i: usize) -> Later
     while j < n {
         let f = edge(o, j);
         if shares(e, f) {
-            return Later::Edge(j);
+            return Some(j);
         }
         j += 1;
     }
-    Later::None
+    None
 }
 
-fn pair(i: usize, j: usize) -> Retracing
+fn pair(i: usize, j: usize) -> Result<Option<EdgePair>, Refusal>
     requires { (i < 64) × (j < 64) }
-    ensures { result ≡ Retracing.Twice (record { first = i + 1; second = j + 1 }) }
+    ensures { result ≡ Ok (Some (record { first = i + 1; second = j + 1 })) }
 {
-    Retracing::Twice(EdgePair {
+    Ok(Some(EdgePair {
         first: (i + 1) as u16,
         second: (j + 1) as u16,
-    })
+    }))
 }
 
 // The first two edges that share a stretch.
-fn first_pair(o: &[u16]) -> Retracing
+fn first_pair(o: &[u16]) -> Result<Option<EdgePair>, Refusal>
     requires { Lent o.now }
     ensures { result ≡ traced (first_pair o.now) }
 {
@@ -148,32 +141,23 @@ fn first_pair(o: &[u16]) -> Retracing
     let mut i = 0;
     while i < n {
         match shared_after(o, i) {
-            Later::Edge(j) => {
+            Some(j) => {
                 return pair(i, j);
             }
-            Later::None => {
+            None => {
                 i += 1;
             }
         }
     }
-    Retracing::Nowhere
-}
-
-fn refused(number: u16) -> Retracing
-    ensures { result ≡ Retracing.Refused (record { number = number; ordinal = 1 }) }
-{
-    Retracing::Refused(Refusal {
-        number: number,
-        ordinal: 1,
-    })
+    Ok(None)
 }
 
 // The retrace call.
-pub fn retrace(o: &[u16]) -> Retracing
+pub fn retrace(o: &[u16]) -> Result<Option<EdgePair>, Refusal>
     ensures { RetraceStep o.now result }
 {
     match checks::bounds(o) {
-        Checked::No(n) => refused(n),
-        Checked::Passes(b) => first_pair(o),
+        Err(n) => refused(n, 1),
+        Ok(b) => first_pair(o),
     }
 }

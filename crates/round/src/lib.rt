@@ -7,8 +7,7 @@ ghost use Rattle.std.specs.Prelude.{◌≡◌, ◌+◌, ◌-◌, ◌≤◌, ◌<
 ghost use Rattle.walk.specs.Free.{Frame};
 ghost use Rattle.round.specs.Range.{SearchedIn};
 
-use heights::Round;
-use walk::{Search, Spot};
+use walk::Search;
 
 // Where the columns end that are below `to` and in which w columns fit.
 fn range_end(n: usize, w: usize, to: usize) -> usize
@@ -29,27 +28,27 @@ pub fn round_range(
     s: Search,
     from: usize,
     to: usize,
-) -> Spot
+) -> Option<(usize, u16)>
     requires fact_1 { Frame first.now lows.now highs.now runs.now s.columns s.width s.runs s.wide s.tall }
     requires fact_2 { s.width ≤ 16000 }
     ensures { SearchedIn first.now lows.now highs.now runs.now s.columns s.width s.runs s.wide s.tall from to result }
 {
     if s.width < s.tall {
-        return Spot::None;
+        return None;
     }
     let end = range_end(s.columns, s.wide, to);
     let mut c = from;
     let mut k = 0;
     while c < end {
         match heights::round_column(first, lows, highs, runs, s, c, k) {
-            Round::Up(y) => {
-                return Spot::Found(c, y);
+            Ok(y) => {
+                return Some((c, y));
             }
-            Round::Full(m) => {
+            Err(m) => {
                 k = m;
                 c += 1;
             }
         }
     }
-    Spot::None
+    None
 }

@@ -7,8 +7,9 @@ use native.Mathlib.Omega.{arith}
 use native.Mathlib.Decide.{dec_lt}
 use lib.Dec.{eqb}
 use borrow.Author.Tests.{eqb-true}
-use Rattle.defs.specs.declared.Placing.{Placing}
-use Rattle.defs.specs.declared.Placing.TheVariants.{Placed, Refused}
+use Rattle.std.specs.Prelude.{Result, Ok, Err}
+use Rattle.defs.specs.declared.Position.{Position}
+use Rattle.defs.specs.declared.Refusal.{Refusal}
 use Rattle.defs.specs.Meaning.Outline.{sides}
 use Rattle.defs.specs.Meaning.Question.{Question10}
 use Rattle.defs.specs.Computing.Cells.{Rows}
@@ -38,11 +39,11 @@ module _ (W R N g Q words : ℕ) (held : List (List Rows)) (o : List ℕ) (mask 
   side : 0 < sides o
   side = has_side o ((question_7 o).0 y.seven)
 
-  pub answer_tells : (a : Placing) → place_on W R N g Q held o mask words ≡ a →
+  pub answer_tells : (a : Result Position Refusal) → place_on W R N g Q held o mask words ≡ a →
       NoneBefore W R N g (held_after W R g held o a) o mask (lower_by a (edge_of R o a))
   unfolding held_after
-  answer_tells (Placed p) e = placed_before W R N g Q held o mask words ten side Rpos table p e
-  answer_tells (Refused r) e = go (eqb r.number 13) refl
+  answer_tells (Ok p) e = placed_before W R N g Q held o mask words ten side Rpos table p e
+  answer_tells (Err r) e = go (eqb r.number 13) refl
     where
       go : (b : Bool) → eqb r.number 13 ≡ b → NoneBefore W R N g held o mask (cond b 4294967295 0)
       go true f = refused_before W R N g Q held o mask words ten side Rpos table r e (eqb-true r.number 13 f) 4294967295

@@ -1,16 +1,15 @@
 -- The pieces of a chain laid one after another: what is left gives the whole. Assumes nothing.
 use mathlib.Core.Path.{◌≡◌, refl, sym, ap, ◌∙◌}
 use mathlib.Core.Bool.{false}
-use mathlib.Core.Option.{none}
 use mathlib.Core.List.{List, [], ◌∷◌, ◌++◌, map}
 use Prim.Native.Nat.{ℕ, ◌+◌, ◌-◌, ◌*◌, ◌≤◌, ◌<◌, max}
 use native.Mathlib.Omega.{arith}
 use lib.ListN.{length, length-append}
 use lib.Seq.{sets, length-sets}
+use Rattle.std.specs.Prelude.{None, Result, Ok, Err}
+use Rattle.defs.specs.declared.Position.{Position}
+use Rattle.defs.specs.declared.Refusal.{Refusal}
 use Rattle.defs.specs.declared.Entry.{Entry}
-use Rattle.defs.specs.declared.Placing.{Placing}
-use Rattle.defs.specs.declared.Placing.TheVariants.{Placed, Refused}
-use Rattle.defs.specs.declared.Fate.TheVariants.{Placed as FatePlaced, Refused as FateRefused}
 use Rattle.defs.specs.Answer.{fate_words}
 use Rattle.defs.specs.Meaning.Placing.{right_edge}
 use Rattle.defs.specs.Meaning.Limits.{most_pieces}
@@ -35,7 +34,7 @@ use Rattle.sequence.proofs.Copied.{held_table, answer_tells}
 
 -- entries and runs, one piece after another
 module _ (W R N g Q words k : ℕ) (held : List (List Rows)) (p : Piece) (ps : List Piece) where
-  abbrev a : Placing
+  abbrev a : Result Position Refusal
   a = place_on W R N g Q held p.outline p.mask words
 
   abbrev after : List Entry
@@ -53,21 +52,21 @@ module _ (W R N g Q words k : ℕ) (held : List (List Rows)) (p : Piece) (ps : L
   unfolding entries_from placed_in
   placed_step = ap (λ (n : ℕ). n + placed_in after) (go a)
     where
-      go : (a : Placing) → (elim (fate_of a) [ FatePlaced p ↦ 1 | FateRefused n ↦ 0 ]) ≡ one_if a
-      go (Placed p) = refl
-      go (Refused r) = refl
+      go : (a : Result Position Refusal) → (elim (fate_of a) [ Ok p ↦ 1 | Err n ↦ 0 ]) ≡ one_if a
+      go (Ok p) = refl
+      go (Err r) = refl
 
   used_step : used_in R (p ∷ ps) (entries_from W R N g Q words k held (p ∷ ps)) ≡ max (edge_of R p.outline a) (used_in R ps after)
   unfolding entries_from used_in
   used_step = ap (λ (n : ℕ). max n (used_in R ps after)) (go a)
     where
-      go : (a : Placing) → (elim (fate_of a) [ FatePlaced q ↦ right_edge R p.outline q | FateRefused n ↦ 0 ]) ≡ edge_of R p.outline a
-      go (Placed q) = refl
-      go (Refused r) = refl
+      go : (a : Result Position Refusal) → (elim (fate_of a) [ Ok q ↦ right_edge R p.outline q | Err n ↦ 0 ]) ≡ edge_of R p.outline a
+      go (Ok q) = refl
+      go (Err r) = refl
 
-four_words : (a : Placing) → length (fate_words (fate_of a)) ≡ 4
-four_words (Placed p) = refl
-four_words (Refused r) = refl
+four_words : (a : Result Position Refusal) → length (fate_words (fate_of a)) ≡ 4
+four_words (Ok p) = refl
+four_words (Err r) = refl
 
 -- four words an entry
 pub words_long : (W R N g Q words k : ℕ) (held : List (List Rows)) (ps : List Piece) →
@@ -84,9 +83,9 @@ words_long W R N g Q words k held (p ∷ ps) =
       words_long W R N g Q words (k + 1) (held_after W R g held p.outline a) ps,
     )
 
-one_most : (a : Placing) → one_if a ≤ 1
-one_most (Placed p) = omega arith
-one_most (Refused r) = omega arith
+one_most : (a : Result Position Refusal) → one_if a ≤ 1
+one_most (Ok p) = omega arith
+one_most (Err r) = omega arith
 
 -- the pieces still to come
 abbrev pub rest_pieces : List ℕ → ℕ → ℕ → List Piece
@@ -116,7 +115,7 @@ whole_by a b c d = rw (a, b, c, d) refl
 -- the pieces before `at` are laid, and the others on top of them give the whole; `last` is the last of them
 pub record Going (b : List ℕ) (v : ℕ) (W R N g Q words : ℕ) (x : Whole) (at last left : ℕ) (t : Tally) (f l h f₂ l₂ h₂ : List ℕ) (out : List ℕ) (long : ℕ) : Type 0 where
   pub along : Along b v at left
-  pub passes : first_no (sheet_piece_no b) t.ordinal (rest b left at) ≡ none
+  pub passes : first_no (sheet_piece_no b) t.ordinal (rest b left at) ≡ None
   pub place : t.ordinal + left ≡ 201
   pub placed : t.placed + left ≤ 200
   pub first : 1 ≤ t.ordinal
@@ -167,7 +166,7 @@ module _
   rest_is : rest b left at ≡ at ∷ later
   rest_is = along_rest s.along p
 
-  pass : (sheet_piece_no b at ≡ 0) × (first_no (sheet_piece_no b) (t.ordinal + 1) later ≡ none)
+  pass : (sheet_piece_no b at ≡ 0) × (first_no (sheet_piece_no b) (t.ordinal + 1) later ≡ None)
   pass = (first_none (sheet_piece_no b) t.ordinal at later).0 (ap (first_no (sheet_piece_no b) t.ordinal) (sym rest_is) ∙ s.passes)
 
   pub going_passes : sheet_piece_no b at ≡ 0
@@ -175,8 +174,8 @@ module _
 
   pub going_few : Few t
   going_few =
-      let some = along_left s.along p in
-      record { ordinal = omega (arith, s.place, some); placed = omega (arith, s.placed, some); first = s.first }
+      let left = along_left s.along p in
+      record { ordinal = omega (arith, s.place, left); placed = omega (arith, s.placed, left); first = s.first }
 
   long_is : length (rest b left at) ≡ 1 + length later
   long_is = omega (arith, ap length rest_is)
@@ -192,7 +191,7 @@ module _
     abbrev now_held : List (List Rows)
     now_held = held_by t.second f l h f₂ l₂ h₂ N
 
-    abbrev answer : Placing
+    abbrev answer : Result Position Refusal
     answer = place_on W R N g Q now_held piece.outline piece.mask words
 
     abbrev then_held : List (List Rows)
@@ -223,13 +222,13 @@ module _
 
     pub going_next : {at' : ℕ} → at' ≡ next_piece b at → Going b v W R N g Q words x at' at (left - 1) t' f' l' h' f₂' l₂' h₂' out' long
     going_next e =
-        let some = along_left s.along p in
+        let left = along_left s.along p in
         rw (e, y.tally)
         (record {
           along = along_next s.along p refl;
           passes = pass.1;
-          place = omega (arith, s.place, some);
-          placed = omega (arith, s.placed, some, one_most answer);
+          place = omega (arith, s.place, left);
+          placed = omega (arith, s.placed, left, one_most answer);
           first = omega arith;
           boards = y.turns.boards;
           same = ap length y.output ∙ length-sets out (4 * (t.ordinal - 1)) (fate_words (fate_of answer)) ∙ s.same;
@@ -248,9 +247,9 @@ pub going_end : {b : List ℕ} {v W R N g Q words : ℕ} {out₀ : List ℕ} {he
     JobLaid b held f l h f₂ l₂ h₂ out₀ out W R N g Q words t
 unfolding entries_from entries_words held_from placed_in used_in
 going_end {b} {W = W} {R} {N} {g} {Q} {words} {out₀} {held} {left = left} {t = t} {f} {l} {h} {f₂} {l₂} {h₂} {out} s e =
-    let none = along_end s.along e in
+    let ended = along_end s.along e in
     let w =
-    ap (λ (rs : List ℕ). whole_from out W R N g Q words t.ordinal (held_by t.second f l h f₂ l₂ h₂ N) (map (piece_of b) rs) t.placed t.used) (sym none) ∙ s.whole in
+    ap (λ (rs : List ℕ). whole_from out W R N g Q words t.ordinal (held_by t.second f l h f₂ l₂ h₂ N) (map (piece_of b) rs) t.placed t.used) (sym ended) ∙ s.whole in
     record {
       output = ap (λ (x : Whole). x.output) w;
       placed = omega (arith, ap (λ (x : Whole). x.placed) w);

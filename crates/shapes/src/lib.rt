@@ -6,8 +6,7 @@ ghost use Rattle.defs.specs.Meaning.Outline.{sides};
 ghost use Rattle.outline.specs.Vertex.{Lent, BoundsOf, FrameOf};
 ghost use Rattle.shapes.specs.Points.{PointOf, Drawable};
 
-use checks::Checked;
-use defs::{Covering, Position, Retracing};
+use defs::{Position, Refusal};
 use frame::Scene;
 use marks::Spot;
 use outline::{Bounds, Frame, Side};
@@ -100,9 +99,9 @@ fn put_stretch(out: &mut [u8], at: usize, s: Side, r: u16, p: Position, font: u3
 // Whether an outline draws a stretch twice.
 fn draws_twice(o: &[u16]) -> bool {
     match retrace::retrace(o) {
-        Retracing::Twice(_) => true,
-        Retracing::Nowhere => false,
-        Retracing::Refused(_) => false,
+        Ok(Some(_)) => true,
+        Ok(None) => false,
+        Err(_) => false,
     }
 }
 
@@ -157,10 +156,10 @@ fn put_ordinal(
 }
 
 // The runs that were written. A piece that was placed has some, and the work buffer has room for them.
-fn count_of(c: Covering) -> u32 {
+fn count_of(c: Result<u32, Refusal>) -> u32 {
     match c {
-        Covering::Runs(count) => count,
-        Covering::Refused(_) => 0,
+        Ok(count) => count,
+        Err(_) => 0,
     }
 }
 
@@ -229,11 +228,11 @@ fn put_shape(
 
 // The bounds of a placed piece's outline: each that was placed passes 7 and 8, and its turn is one of four.
 #[tactic(auto, using(crate::proofs::Points::drawable))]
-fn placed_bounds(o: &[u16], p: Position) -> Checked
+fn placed_bounds(o: &[u16], p: Position) -> Result<Bounds, u16>
     ensures { Drawable o.now p result }
 {
     if numbers::MOST_TURN < p.turn {
-        return Checked::No(9);
+        return Err(9);
     }
     checks::bounds(o)
 }
@@ -250,8 +249,8 @@ fn put_piece(
     work: &mut [u16],
 ) -> usize {
     match placed_bounds(o, p) {
-        Checked::No(_) => at,
-        Checked::Passes(b) => put_shape(out, at, o, b, r, p, font, k, work),
+        Err(_) => at,
+        Ok(b) => put_shape(out, at, o, b, r, p, font, k, work),
     }
 }
 
@@ -323,8 +322,8 @@ fn put_loop(
 // The same of a piece that is placed.
 fn put_round(out: &mut [u8], at: usize, o: &[u16], r: u16, p: Position, font: u32) -> usize {
     match placed_bounds(o, p) {
-        Checked::No(_) => at,
-        Checked::Passes(b) => put_loop(out, at, o, b, r, p, font),
+        Err(_) => at,
+        Ok(b) => put_loop(out, at, o, b, r, p, font),
     }
 }
 
@@ -392,8 +391,8 @@ fn put_stretches(out: &mut [u8], at: usize, o: &[u16], r: u16, p: Position, font
         return at;
     }
     match placed_bounds(o, p) {
-        Checked::No(_) => at,
-        Checked::Passes(b) => put_dashed(out, at, o, b, r, p, font),
+        Err(_) => at,
+        Ok(b) => put_dashed(out, at, o, b, r, p, font),
     }
 }
 

@@ -3,12 +3,12 @@
 use mathlib.Core.Path.{◌≡◌, refl}
 use mathlib.Core.Logic.{◌↔◌}
 use mathlib.Core.Bool.{Bool, true, false, cond}
-use mathlib.Core.Option.{none, some}
 use mathlib.Core.List.{List, ◌∷◌}
 use Prim.Native.Nat.{ℕ, suc, ◌+◌}
 use native.Mathlib.Omega.{arith}
 use lib.Dec.{eqb}
 use borrow.Author.Tests.{eqb-true, eq-eqb}
+use Rattle.std.specs.Prelude.{Some, None}
 use Rattle.defs.specs.Meaning.Sheet.{Piece}
 use Rattle.defs.specs.Computing.Calls.{q7b, q9b, outline_no, refusal}
 use Rattle.defs.specs.Computing.Sheets.{first_no}
@@ -16,7 +16,7 @@ use Rattle.laws.proofs.Questions.{question_7}
 use Rattle.geom.proofs.Checks.{none_no_is}
 use Rattle.sheets.proofs.PiecesBack.{Each, nothing_left, and_more, Shaped}
 
-pub some_none : {A : Type 0} {a : A} → ¬ (some a ≡ none)
+pub some_none : {A : Type 0} {a : A} → ¬ (Some a ≡ None)
 some_none e = let z : ◌≡◌ {A = ℕ} 0 1 = cc in omega arith
 
 pub not_zero : {n : ℕ} → ¬ (suc n ≡ 0)
@@ -24,12 +24,12 @@ not_zero e = omega arith
 
 -- no piece of a list gets "no"
 pub first_none : {A : Type 0} (f : A → ℕ) (k : ℕ) (x : A) (xs : List A) →
-    (first_no f k (x ∷ xs) ≡ none) ↔ ((f x ≡ 0) × (first_no f (k + 1) xs ≡ none))
+    (first_no f k (x ∷ xs) ≡ None) ↔ ((f x ≡ 0) × (first_no f (k + 1) xs ≡ None))
 unfolding first_no
 first_none f k x xs = (λ e. go (eqb (f x) 0) refl e, λ h. rw (eq-eqb (f x) 0 h.0) h.1)
   where
-    go : (t : Bool) → eqb (f x) 0 ≡ t → cond t (first_no f (k + 1) xs) (some (refusal (f x) k)) ≡ none →
-        (f x ≡ 0) × (first_no f (k + 1) xs ≡ none)
+    go : (t : Bool) → eqb (f x) 0 ≡ t → cond t (first_no f (k + 1) xs) (Some (refusal (f x) k)) ≡ None →
+        (f x ≡ 0) × (first_no f (k + 1) xs ≡ None)
     go true q e = (eqb-true (f x) 0 q, e)
     go false q e = absurd (some_none e)
 

@@ -3,7 +3,6 @@
 -- Assumes nothing.
 use mathlib.Core.Path.{◌≡◌, refl, sym, ap, ◌∙◌}
 use mathlib.Core.Bool.{true}
-use mathlib.Core.Option.{none}
 use mathlib.Core.List.{List, [], ◌∷◌, ◌++◌, append_assoc, map}
 use Prim.Native.Nat.{ℕ, zero, suc, ◌+◌, ◌*◌, ◌/◌, ◌≤◌}
 use native.Mathlib.Omega.{arith}
@@ -11,6 +10,7 @@ use lib.Dec.{eqb}
 use borrow.Author.Tests.{eqb-true}
 use lib.ListN.{length, get_or, take, drop, take-append-drop, length-append}
 use lib.Seq.{length-take-le, take-append_seam, drop-append_seam}
+use Rattle.std.specs.Prelude.{None}
 use Rattle.defs.specs.Meaning.Limits.{most_pieces}
 use Rattle.defs.specs.Meaning.Strip.{Limits}
 use Rattle.defs.specs.Meaning.Sheet.{Piece, piece_words, pieces_words, list_words, ListHolds, list_piece}
@@ -49,7 +49,7 @@ pub record PiecesIn (R n : ℕ) (ws : List ℕ) : Type 0 where
   pub passes : Each (PiecePasses R) (map list_piece (list_tails n ws))
   pub long : length (map list_piece (list_tails n ws)) ≡ n
 
-pieces_in : (R k n : ℕ) (ws : List ℕ) → first_no (list_piece_no R) k (list_tails n ws) ≡ none → PiecesIn R n ws
+pieces_in : (R k n : ℕ) (ws : List ℕ) → first_no (list_piece_no R) k (list_tails n ws) ≡ None → PiecesIn R n ws
 unfolding list_tails
 pieces_in R k zero ws e = record { rest = ws; words = refl; passes = nothing_left; long = refl }
 pieces_in R k (suc n) ws e =
@@ -76,7 +76,7 @@ pub record Accepted (W R N : ℕ) (ws : List ℕ) : Type 0 where
   pub count : Question6List ws
   pub pieces : PiecesIn R (get_or ws 0 0) (drop 1 ws)
 
-pub accepted : (W R N : ℕ) (ws : List ℕ) → list_no W R N ws ≡ none → Accepted W R N ws
+pub accepted : (W R N : ℕ) (ws : List ℕ) → list_no W R N ws ≡ None → Accepted W R N ws
 unfolding list_no
 accepted W R N ws e =
     let e3 = asked (eqb (limits_no W R N) 0) _ e some_none in
@@ -142,7 +142,7 @@ module _ (p : Piece) (more : List ℕ) (s : Shaped p) where
 
 -- words that begin with pieces that pass are taken apart as these
 record Listed (R k : ℕ) (ps : List Piece) (ws : List ℕ) : Type 0 where
-  none_no : first_no (list_piece_no R) k (list_tails (length ps) ws) ≡ none
+  none_no : first_no (list_piece_no R) k (list_tails (length ps) ws) ≡ None
   pieces : map list_piece (list_tails (length ps) ws) ≡ ps
 
 listed : (R k : ℕ) {ps : List Piece} (rest : List ℕ) → Each (PiecePasses R) ps → Listed R k ps (pieces_words ps ++ rest)
@@ -181,7 +181,7 @@ module _
     (limits : Limits W R N)
     (few : length ps ≤ most_pieces)
     (passes : Each (PiecePasses R) ps) where
-  pub words_accepted : list_no W R N (list_words ps ++ rest) ≡ none
+  pub words_accepted : list_no W R N (list_words ps ++ rest) ≡ None
   unfolding list_no
   words_accepted =
       rw (

@@ -2,13 +2,13 @@
 -- Assumes nothing.
 use mathlib.Core.Path.{◌≡◌, refl}
 use mathlib.Core.Bool.{true}
-use mathlib.Core.Option.{none}
 use mathlib.Core.List.{List, [], ◌∷◌, map}
 use Prim.Native.Nat.{ℕ, ◌+◌, ◌≤◌}
 use native.Mathlib.Omega.{arith}
 use lib.Dec.{eqb}
 use borrow.Author.Tests.{eqb-true}
 use lib.ListN.{length, length-map}
+use Rattle.std.specs.Prelude.{None}
 use Rattle.defs.specs.Meaning.Limits.{most_vertices, most_pieces}
 use Rattle.defs.specs.Meaning.Sheet.{vertex_number, piece_number, sheet_w, sheet_r, sheet_n, sheet_v, sheet_p, first_piece, vertex_words, Piece, VertexChain, Pieces, no_more, one_more, SheetHolds}
 use Rattle.defs.specs.Meaning.Question.{Question7Sheet}
@@ -37,7 +37,7 @@ pieces_are no_more = refl
 pieces_are (one_more c q) = rw (piece_is c, pieces_are q)
 
 pub none_refused : {b rs : List ℕ} {ps : List Piece} (k : ℕ) → Pieces b rs ps → Each (PiecePasses (sheet_r b)) ps →
-    first_no (sheet_piece_no b) k rs ≡ none
+    first_no (sheet_piece_no b) k rs ≡ None
 unfolding first_no
 none_refused k no_more s = refl
 none_refused {b} k (one_more {r} {rs} c q) (and_more s ss) =
@@ -56,7 +56,7 @@ module _ {b : List ℕ} {ps : List Piece} (h : SheetHolds b ps) where
   unfolding q6b
   holds_6 = chain_ends most_pieces h.q6.chain h.q6.most
 
-  pub holds_none : Each (PiecePasses (sheet_r b)) ps → sheet_no b true true ≡ none
+  pub holds_none : Each (PiecePasses (sheet_r b)) ps → sheet_no b true true ≡ None
   unfolding sheet_no
   holds_none s =
       rw (
@@ -86,7 +86,7 @@ record ReadPieces (b rs : List ℕ) : Type 0 where
   pieces : Pieces b rs (map (piece_of b) rs)
   passes : Each (PiecePasses (sheet_r b)) (map (piece_of b) rs)
 
-pieces_held : (b : List ℕ) (k : ℕ) (rs : List ℕ) → first_no (sheet_piece_no b) k rs ≡ none → ReadPieces b rs
+pieces_held : (b : List ℕ) (k : ℕ) (rs : List ℕ) → first_no (sheet_piece_no b) k rs ≡ None → ReadPieces b rs
 pieces_held b k [] e = record { pieces = no_more; passes = nothing_left }
 pieces_held b k (r ∷ rs) e =
     let h = (first_none (sheet_piece_no b) k r rs).0 e in
@@ -104,7 +104,7 @@ pub record Held (b : List ℕ) : Type 0 where
   pub holds : SheetHolds b (sheet_pieces b)
   pub passes : Each (PiecePasses (sheet_r b)) (sheet_pieces b)
 
-pub none_held : (b : List ℕ) → sheet_no b true true ≡ none → Held b
+pub none_held : (b : List ℕ) → sheet_no b true true ≡ None → Held b
 unfolding sheet_no sheet_pieces piece_records q6b
 none_held b e =
     let e1 = asked (q1b b) _ e some_none in

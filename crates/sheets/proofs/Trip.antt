@@ -6,10 +6,9 @@ use Prim.Native.Nat.{ℕ, ◌≤◌}
 use native.Mathlib.Omega.{arith}
 use lib.ListN.{length, take, drop}
 use lib.Seq.{take_at}
+use Rattle.std.specs.Prelude.{Result, Ok}
+use Rattle.defs.specs.declared.Refusal.{Refusal}
 use Rattle.defs.specs.declared.Figures.{Figures}
-use Rattle.defs.specs.declared.Reading.{Reading}
-use Rattle.defs.specs.declared.Reading.TheVariants.{Read}
-use Rattle.defs.specs.declared.Writing.TheVariants.{Written}
 use Rattle.defs.specs.Meaning.Sheet.{Piece, SheetHolds, sheet_r, list_words}
 use Rattle.defs.specs.Computing.Sheets.{sheet_bytes, sheet_pieces, read_output, list_pieces, write_output, ReadStep, WriteStep}
 use Rattle.sheets.proofs.PiecesBack.{Each}
@@ -20,29 +19,29 @@ use Rattle.sheets.proofs.ListBack.{Accepted, all_pass, few_pieces}
 use Rattle.sheets.proofs.Answers.{figures_of, read_grants, WriteGranted, write_granted}
 
 -- The output of a granted read begins with the list of the sheet's pieces.
-pub list_read : {b out out' : List ℕ} {f : Figures} → ReadStep b out (Read f) out' →
+pub list_read : {b out out' : List ℕ} {f : Figures} → ReadStep b out (Ok f) out' →
     out' ≡ list_words (sheet_pieces b) ++ drop (length (list_words (sheet_pieces b))) out
 unfolding read_output
 list_read r = r.output
 
 -- A sheet that holds pieces that pass is read as these, into any output with room for the list.
 pub reads : {b : List ℕ} {ps : List Piece} → SheetHolds b ps → Each (PiecePasses (sheet_r b)) ps →
-    (a : Reading) (o o' : List ℕ) → ReadStep b o a o' → length (list_words ps) ≤ length o →
-    (a ≡ Read (figures_of b)) × (take (length (list_words ps)) o' ≡ list_words ps)
+    (a : Result Figures Refusal) (o o' : List ℕ) → ReadStep b o a o' → length (list_words ps) ≤ length o →
+    (a ≡ Ok (figures_of b)) × (take (length (list_words ps)) o' ≡ list_words ps)
 reads {b} {ps} h s a o o' r l = (e, words)
   where
     list : list_words (sheet_pieces b) ≡ list_words ps
     list = ap list_words (holds_pieces h)
 
-    e : a ≡ Read (figures_of b)
+    e : a ≡ Ok (figures_of b)
     e = r.answer ∙ read_grants b (length o) (holds_none h s) (omega (arith, ap length list))
 
     words : take (length (list_words ps)) o' ≡ list_words ps
     words =
-        ap (take (length (list_words ps))) (list_read (subst (λ (x : Reading). ReadStep b o x o') e r)) ∙
+        ap (take (length (list_words ps))) (list_read (subst (λ (x : Result Figures Refusal). ReadStep b o x o') e r)) ∙
         take_at (list_words (sheet_pieces b)) _ (length (list_words ps)) (ap length list) ∙ list
 
-module _ {W R N n : ℕ} {ws out out' : List ℕ} (w : WriteStep W R N ws out (Written n) out') where
+module _ {W R N n : ℕ} {ws out out' : List ℕ} (w : WriteStep W R N ws out (Ok n) out') where
   granted : WriteGranted W R N ws (length out) n
   granted = write_granted W R N ws (length out) n w.answer
 
@@ -67,8 +66,8 @@ module _ {W R N n : ℕ} {ws out out' : List ℕ} (w : WriteStep W R N ws out (W
   passes_back : Each (PiecePasses (sheet_r (take n out'))) ps
   passes_back = rw (ap (λ (f : Figures). f.resolution) figures_back) (all_pass list_accepted)
 
-  pub reads_back : (a : Reading) (o o' : List ℕ) → ReadStep (take n out') o a o' → length (list_words ps) ≤ length o →
-      (a ≡ Read (record { width = W; resolution = R; columns = N })) × (take (length (list_words ps)) o' ≡ list_words ps)
+  pub reads_back : (a : Result Figures Refusal) (o o' : List ℕ) → ReadStep (take n out') o a o' → length (list_words ps) ≤ length o →
+      (a ≡ Ok (record { width = W; resolution = R; columns = N })) × (take (length (list_words ps)) o' ≡ list_words ps)
   reads_back a o o' r l =
       let h = reads sheet_holds passes_back a o o' r l in
-      (h.0 ∙ ap Read figures_back, h.1)
+      (h.0 ∙ ap Ok figures_back, h.1)

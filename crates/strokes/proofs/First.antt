@@ -3,10 +3,11 @@ use mathlib.Core.Path.{◌≡◌, refl, sym, subst}
 use mathlib.Core.Logic.{⊎_elim}
 use mathlib.Core.Bool.{Bool, cond}
 use mathlib.Core.List.{List}
-use mathlib.Core.Option.{Option, none, some, some-injective, none-ne-some, some-ne-none}
 use Prim.Native.Nat.{ℕ, suc, ◌+◌, ◌≤◌, ◌<◌}
 use native.Mathlib.Omega.{arith}
 use borrow.Author.Tests.{le-leb, lt-leb}
+use Rattle.std.specs.Prelude.{Option, Some, None}
+use Rattle.std.proofs.lemmas.Option.{same_Some, none-some}
 use Rattle.defs.specs.declared.EdgePair.{EdgePair}
 use Rattle.defs.specs.Meaning.Outline.{edge_at, sides, vx, after}
 use Rattle.laws.proofs.Tests.{Decides}
@@ -19,23 +20,23 @@ use Rattle.strokes.proofs.Points.{shared_sym}
 use Rattle.strokes.proofs.Decided.{shares_decides}
 
 -- what is found where a test passes, and where it fails
-found : (b : Bool) {P : Type 0} → Decides b P → (x a : ℕ) → cond b (some x) none ≡ some a → P × (x ≡ a)
+found : (b : Bool) {P : Type 0} → Decides b P → (x a : ℕ) → cond b (Some x) None ≡ Some a → P × (x ≡ a)
 found b t x a e = let r = if_true b e in (t.0 r.0, r.1)
 
-not_found : (b : Bool) {P : Type 0} → Decides b P → (x : ℕ) → cond b (some x) none ≡ none → ¬ P
+not_found : (b : Bool) {P : Type 0} → Decides b P → (x : ℕ) → cond b (Some x) None ≡ None → ¬ P
 not_found b t x e h = if_none b x e (t.1 h)
 
 -- the numbers of two edges
 abbrev pair : ℕ → ℕ → EdgePair
 pair i j = record { first = i + 1; second = j + 1 }
 
-numbered_some : (i : ℕ) (x : Option ℕ) (p : EdgePair) → numbered i x ≡ some p → (j : ℕ) × (x ≡ some j) × (p ≡ pair i j)
-numbered_some i none p e = absurd (none-ne-some p e)
-numbered_some i (some j) p e = (j, refl, sym (some-injective _ p e))
+numbered_some : (i : ℕ) (x : Option ℕ) (p : EdgePair) → numbered i x ≡ Some p → (j : ℕ) × (x ≡ Some j) × (p ≡ pair i j)
+numbered_some i None p e = absurd (none-some p e)
+numbered_some i (Some j) p e = (j, refl, sym (same_Some _ p e))
 
-numbered_none : (i : ℕ) (x : Option ℕ) → numbered i x ≡ none → x ≡ none
-numbered_none i none e = refl
-numbered_none i (some j) e = absurd (some-ne-none _ e)
+numbered_none : (i : ℕ) (x : Option ℕ) → numbered i x ≡ None → x ≡ None
+numbered_none i None e = refl
+numbered_none i (Some j) e = absurd (none-some _ (sym e))
 
 module _ (o : List ℕ) where
   left_first : (i : ℕ) → (edge_at o i).xl ≤ (edge_at o i).xr
@@ -50,11 +51,11 @@ module _ (o : List ℕ) where
   decided : (i j : ℕ) → Decides (sharesb (edge_at o i) (edge_at o j)) (Share i j)
   decided i j = shares_decides (edge_at o i) (edge_at o j) (left_first i) (left_first j)
 
-  after_none : (i j : ℕ) → shared_after o i ≡ none → i < j → j < sides o → ¬ Share i j
+  after_none : (i j : ℕ) → shared_after o i ≡ None → i < j → j < sides o → ¬ Share i j
   unfolding shared_after
   after_none i j e l m = not_found _ (decided i j) j (none_at _ (suc i) _ e j l (omega arith))
 
-  pub first_none : first_pair o ≡ none → DrawnOnce o
+  pub first_none : first_pair o ≡ None → DrawnOnce o
   unfolding first_pair DrawnOnce
   first_none e i j l m ne s =
       ⊎_elim (λ less. nothing i j l m less s)
@@ -63,7 +64,7 @@ module _ (o : List ℕ) where
       nothing : (i j : ℕ) → i < sides o → j < sides o → i < j → ¬ Share i j
       nothing i j l m less = after_none i j (numbered_none i _ (none_at _ 0 (sides o) e i (omega arith) (omega arith))) less m
 
-  after_some : (i j : ℕ) → i < sides o → shared_after o i ≡ some j →
+  after_some : (i j : ℕ) → i < sides o → shared_after o i ≡ Some j →
       (i < j) × (j < sides o) × Share i j × ((k : ℕ) → i < k → k < j → ¬ Share i k)
   unfolding shared_after
   after_some i j l e =
@@ -75,7 +76,7 @@ module _ (o : List ℕ) where
         λ k m n. not_found _ (decided i k) k (a.before k m (omega (arith, s.1))),
       )
 
-  pub first_some : (p : EdgePair) → first_pair o ≡ some p →
+  pub first_some : (p : EdgePair) → first_pair o ≡ Some p →
       (i : ℕ) × (j : ℕ) × (p ≡ record { first = i + 1; second = j + 1 }) × FirstShared o i j
   unfolding first_pair
   first_some p e =

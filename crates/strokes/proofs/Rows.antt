@@ -2,8 +2,9 @@
 use mathlib.Core.Path.{◌≡◌, refl}
 use mathlib.Core.List.{[], ◌∷◌}
 use Prim.Native.Nat.{ℕ}
-use Rattle.defs.specs.declared.Retracing.{Retracing}
-use Rattle.defs.specs.declared.Retracing.TheVariants.{Nowhere, Twice, Refused}
+use Rattle.std.specs.Prelude.{Option, Some, None, Result, Ok, Err}
+use Rattle.defs.specs.declared.EdgePair.{EdgePair}
+use Rattle.defs.specs.declared.Refusal.{Refusal}
 use Rattle.defs.specs.Computing.Calls.{refusal}
 use Rattle.defs.specs.Computing.Runs.{runs}
 use Rattle.strokes.specs.Retrace.{rise_alike, level, run_along, stand_along, sharesb, shared_after, first_pair, retrace_answer}
@@ -13,11 +14,11 @@ computes : Unit {0}
 unfolding runs retrace_answer first_pair shared_after sharesb run_along stand_along rise_alike level
 computes = tt
 
-abbrev twice : ℕ → ℕ → Retracing
-twice i j = Twice (record { first = i; second = j })
+abbrev twice : ℕ → ℕ → Result (Option EdgePair) Refusal
+twice i j = Ok (Some (record { first = i; second = j }))
 
 -- a square of 4
-row_square : retrace_answer (0 ∷ 0 ∷ 4 ∷ 0 ∷ 4 ∷ 4 ∷ 0 ∷ 4 ∷ []) ≡ Nowhere
+row_square : retrace_answer (0 ∷ 0 ∷ 4 ∷ 0 ∷ 4 ∷ 4 ∷ 0 ∷ 4 ∷ []) ≡ Ok None
 unfolding computes
 row_square = refl
 
@@ -41,10 +42,10 @@ unfolding computes
 row_order = refl
 
 -- two vertices; a coordinate past 16,000
-row_7 : retrace_answer (0 ∷ 0 ∷ 4 ∷ 0 ∷ []) ≡ Refused (refusal 7 1)
+row_7 : retrace_answer (0 ∷ 0 ∷ 4 ∷ 0 ∷ []) ≡ Err (refusal 7 1)
 unfolding computes
 row_7 = refl
 
-row_8 : retrace_answer (0 ∷ 0 ∷ 16001 ∷ 0 ∷ 0 ∷ 4 ∷ []) ≡ Refused (refusal 8 1)
+row_8 : retrace_answer (0 ∷ 0 ∷ 16001 ∷ 0 ∷ 0 ∷ 4 ∷ []) ≡ Err (refusal 8 1)
 unfolding computes
 row_8 = refl

@@ -1,10 +1,8 @@
 -- The retrace call, which tells whether an outline draws a stretch twice: the test of two edges, and what is answered.
 -- Assumes nothing.
-use Rattle.std.specs.Prelude.{◌≡◌, Bool, cond, ◌&&◌, ◌||◌, List, ℕ, suc, ◌+◌, ◌*◌, ◌-◌, max, min, ltb, eqb}
-use Rattle.std.proofs.Math.Option.{Option, none, some}
+use Rattle.std.specs.Prelude.{◌≡◌, Bool, cond, ◌&&◌, ◌||◌, List, ℕ, suc, ◌+◌, ◌*◌, ◌-◌, max, min, ltb, eqb, Option, Some, None, Result, Ok, Err}
+use Rattle.defs.specs.declared.Refusal.{Refusal}
 use Rattle.defs.specs.declared.EdgePair.{EdgePair}
-use Rattle.defs.specs.declared.Retracing.{Retracing}
-use Rattle.defs.specs.declared.Retracing.TheVariants.{Nowhere, Twice, Refused as NotTraced}
 use Rattle.defs.specs.Meaning.Outline.{Edge, edge_at, sides, height, width}
 use Rattle.defs.specs.Computing.Test.{ask, first_from}
 use Rattle.defs.specs.Computing.Calls.{refusal, q7b, q8b}
@@ -34,26 +32,26 @@ sharesb e f = run_along e f || stand_along e f
 -- the first edge after edge i that shares a stretch with it
 unfoldable pub shared_after : List ℕ → ℕ → Option ℕ
 shared_after o i =
-    first_from (λ j. cond (sharesb (edge_at o i) (edge_at o j)) (some j) none) (suc i) (sides o - suc i)
+    first_from (λ j. cond (sharesb (edge_at o i) (edge_at o j)) (Some j) None) (suc i) (sides o - suc i)
 
 abbrev pub numbered : ℕ → Option ℕ → Option EdgePair
-numbered i none = none
-numbered i (some j) = some (record { first = i + 1; second = j + 1 })
+numbered i None = None
+numbered i (Some j) = Some (record { first = i + 1; second = j + 1 })
 
 unfoldable pub first_pair : List ℕ → Option EdgePair
 first_pair o = first_from (λ i. numbered i (shared_after o i)) 0 (sides o)
 
-abbrev pub traced : Option EdgePair → Retracing
-traced none = Nowhere
-traced (some p) = Twice p
+abbrev pub traced : Option EdgePair → Result (Option EdgePair) Refusal
+traced None = Ok None
+traced (Some p) = Ok (Some p)
 
 -- 7 and 8 are asked of the outline, as of any that is lent.
-unfoldable pub retrace_answer : List ℕ → Retracing
+unfoldable pub retrace_answer : List ℕ → Result (Option EdgePair) Refusal
 retrace_answer o =
-    ask (q7b o) (NotTraced (refusal 7 1)) λ _.
-    ask (q8b o) (NotTraced (refusal 8 1)) λ _.
+    ask (q7b o) (Err (refusal 7 1)) λ _.
+    ask (q8b o) (Err (refusal 8 1)) λ _.
     traced (first_pair o)
 
 -- The contract of the call.
-pub record RetraceStep (o : List ℕ) (a : Retracing) : Type 0 where
+pub record RetraceStep (o : List ℕ) (a : Result (Option EdgePair) Refusal) : Type 0 where
   pub answer : a ≡ retrace_answer o

@@ -5,14 +5,12 @@ use mathlib.Core.Path.{◌≡◌, refl, ap, subst}
 use mathlib.Core.Logic.{inl, ⊎_elim}
 use mathlib.Core.Bool.{Bool, true, false}
 use mathlib.Core.List.{List}
-use mathlib.Core.Option.{Option, none, some}
 use Prim.Native.Nat.{ℕ, zero, suc, ◌+◌, ◌*◌, ◌≤◌, ◌<◌}
 use native.Mathlib.Omega.{arith}
 use lib.Dec.{eqb, eqb-suc-zero}
+use Rattle.std.specs.Prelude.{Option, Some, None, Result, Ok, Err}
 use Rattle.defs.specs.declared.Position.{Position}
 use Rattle.defs.specs.declared.Refusal.{Refusal}
-use Rattle.defs.specs.declared.Placing.{Placing}
-use Rattle.defs.specs.declared.Placing.TheVariants.{Placed, Refused}
 use Rattle.defs.specs.Meaning.Outline.{sides, KeepsOrder}
 use Rattle.defs.specs.Meaning.Turn.{turned, extent_x, extent_y, Allows}
 use Rattle.defs.specs.Meaning.Placing.{columns_for, right_edge, Free, Fits, Later, Best}
@@ -77,23 +75,23 @@ module _ (W R N g Q : ℕ) (held : List (List Rows)) (o : List ℕ) (mask words 
   outline_not_13 = not_13 (q7b o) (q8b o) (q9b mask) (ordersb o mask) (q11b o mask R)
 
   -- what an answer says of the best position
-  abbrev Says : Option Position → Placing → Type 0
-  Says x (Placed p) = x ≡ some p
-  Says x (Refused r) = r.number ≡ 13 → x ≡ none
+  abbrev Says : Option Position → Result Position Refusal → Type 0
+  Says x (Ok p) = x ≡ Some p
+  Says x (Err r) = r.number ≡ 13 → x ≡ None
 
   says : Says (best_below W R N g held o mask 4) (place_on W R N g Q held o mask words)
   unfolding place_on choose
   says = go (outline_no o (q9b mask) mask R) outline_not_13 (q12b o mask R g words) (best_below W R N g held o mask 4)
     where
-      last : (p : Position) (b : Bool) → Says (some p) (ask b (Refused (refusal 14 1)) λ _. Placed p)
+      last : (p : Position) (b : Bool) → Says (Some p) (ask b (Err (refusal 14 1)) λ _. Ok p)
       last p true = refl
       last p false = λ e. absurd (omega arith)
 
       go : (n : ℕ) → ¬ (n ≡ 13) → (b : Bool) (x : Option Position) →
-          Says x (ask (eqb n 0) (Refused (refusal n 1)) λ _. ask b (Refused (refusal 12 1)) λ _. choose W R g Q held o x)
+          Says x (ask (eqb n 0) (Err (refusal n 1)) λ _. ask b (Err (refusal 12 1)) λ _. choose W R g Q held o x)
       go zero n false x = λ e. absurd (omega arith)
-      go zero n true none = λ e. refl
-      go zero n true (some p) = last p (q14b W R g Q held o p)
+      go zero n true None = λ e. refl
+      go zero n true (Some p) = last p (q14b W R g Q held o p)
       go (suc m) n b x = rw (eqb-suc-zero m) (λ e. absurd (n e))
 
   module _ (keeps : Question10 o mask) (some_side : 0 < sides o) (Rpos : 1 ≤ R) (table : Table W N held) where
@@ -110,7 +108,7 @@ module _ (W R N g Q : ℕ) (held : List (List Rows)) (o : List ℕ) (mask words 
         }
 
     -- a copy of a piece that is placed has its right edge there or further on
-    pub placed_before : (p : Position) → place_on W R N g Q held o mask words ≡ Placed p →
+    pub placed_before : (p : Position) → place_on W R N g Q held o mask words ≡ Ok p →
         NoneBefore W R N g (entered W R g held o p) o mask (right_edge R o p)
     unfolding Question10
     placed_before p e =
@@ -119,7 +117,7 @@ module _ (W R N g Q : ℕ) (held : List (List Rows)) (o : List ℕ) (mask words 
         more_held (λ i j taken. (cells i j).1 (inl taken)) (first_edge p best)
 
     -- a copy of a piece that has no place has none either
-    pub refused_before : (r : Refusal) → place_on W R N g Q held o mask words ≡ Refused r → r.number ≡ 13 → (lower : ℕ) →
+    pub refused_before : (r : Refusal) → place_on W R N g Q held o mask words ≡ Err r → r.number ≡ 13 → (lower : ℕ) →
         NoneBefore W R N g held o mask lower
     unfolding Question13
     refused_before r e thirteen lower =

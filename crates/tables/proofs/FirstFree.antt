@@ -5,9 +5,9 @@ use mathlib.Core.Path.{◌≡◌, refl, sym, ap, ap₂, subst, ◌∙◌}
 use mathlib.Core.Logic.{◌↔◌, ◌⊎◌, inl, inr, ◌≢◌}
 use mathlib.Core.Bool.{Bool, true, cond}
 use mathlib.Core.List.{List}
-use mathlib.Core.Option.{Option, none, some}
 use Prim.Native.Nat.{ℕ, ◌+◌, ◌-◌, ◌≤◌, ◌<◌}
 use native.Mathlib.Omega.{arith}
+use Rattle.std.specs.Prelude.{Option, Some, None}
 use Rattle.defs.specs.declared.Position.{Position}
 use Rattle.defs.specs.Meaning.Outline.{sides}
 use Rattle.defs.specs.Meaning.Turn.{extent_x, extent_y, Allows}
@@ -33,7 +33,7 @@ module _ (W R N g : ℕ) (held : List (List Rows)) (o : List ℕ) (mask : ℕ) (
   test c y = freeb y (piece_runs o t R g) (drop_n c held)
 
   abbrev at_height_lem : ℕ → ℕ → Option Position
-  at_height_lem c y = cond (test c y) (some (position t c y)) none
+  at_height_lem c y = cond (test c y) (Some (position t c y)) None
 
   abbrev in_column : ℕ → Option Position
   in_column c = first_from (at_height_lem c) 0 heights
@@ -56,12 +56,12 @@ module _ (W R N g : ℕ) (held : List (List Rows)) (o : List ℕ) (mask : ℕ) (
   as_tried : (q : Position) → q.turn ≡ t → q ≡ position t q.column q.height
   as_tried q e = ap (λ (a : ℕ). position a q.column q.height) e
 
-  none_in_column : (c y : ℕ) → in_column c ≡ none → ¬ Fits W R N g (In held) o mask (position t c y)
+  none_in_column : (c y : ℕ) → in_column c ≡ None → ¬ Fits W R N g (In held) o mask (position t c y)
   none_in_column c y e f =
       let h = (passes c y).0 f in
       if_none (test c y) (position t c y) (none_at (at_height_lem c) 0 heights e y (omega arith) (omega (arith, h.1))) h.2
 
-  pub first_none : first_free W R N g held o t ≡ none → (q : Position) → q.turn ≡ t → ¬ Fits W R N g (In held) o mask q
+  pub first_none : first_free W R N g held o t ≡ None → (q : Position) → q.turn ≡ t → ¬ Fits W R N g (In held) o mask q
   unfolding first_free
   first_none e q et f =
       let f' = subst (Fits W R N g (In held) o mask) (as_tried q et) f in
@@ -69,8 +69,8 @@ module _ (W R N g : ℕ) (held : List (List Rows)) (o : List ℕ) (mask : ℕ) (
       (none_at in_column 0 columns e q.column (omega arith) (omega (arith, ((passes q.column q.height).0 f').0))) f'
 
   -- no column before c has one, and no height before y in column c
-  least_at : (c y : ℕ) → Fits W R N g (In held) o mask (position t c y) → ((m : ℕ) → 0 ≤ m → m < c → in_column m ≡ none) →
-      ((m : ℕ) → 0 ≤ m → m < y → at_height_lem c m ≡ none) → LeastInTurn W R N g (In held) o mask (position t c y)
+  least_at : (c y : ℕ) → Fits W R N g (In held) o mask (position t c y) → ((m : ℕ) → 0 ≤ m → m < c → in_column m ≡ None) →
+      ((m : ℕ) → 0 ≤ m → m < y → at_height_lem c m ≡ None) → LeastInTurn W R N g (In held) o mask (position t c y)
   least_at c y fits no-column no-height =
       record {
         fits = fits;
@@ -92,7 +92,7 @@ module _ (W R N g : ℕ) (held : List (List Rows)) (o : List ℕ) (mask : ℕ) (
           (if_none (test c y') (position t c y') (no-height y' (omega arith) l)
           (subst (λ (a : ℕ). test a y' ≡ true) (sym e) ((passes c' y').0 f).2))
 
-  pub first_found : (p : Position) → first_free W R N g held o t ≡ some p → (p.turn ≡ t) × LeastInTurn W R N g (In held) o mask p
+  pub first_found : (p : Position) → first_free W R N g held o t ≡ Some p → (p.turn ≡ t) × LeastInTurn W R N g (In held) o mask p
   unfolding first_free
   first_found p e =
       let f = first_at in_column 0 columns p e in

@@ -5,9 +5,9 @@ use mathlib.Core.Path.{◌≡◌, refl, sym, ap, subst, ◌∙◌}
 use mathlib.Core.Logic.{◌↔◌, ◌⊎◌, inl, inr, ⊎_elim, ◌≢◌}
 use mathlib.Core.Bool.{Bool, true, false, cond, false≢true}
 use mathlib.Core.List.{List}
-use mathlib.Core.Option.{Option, none, some}
 use Prim.Native.Nat.{ℕ, zero, suc, ◌≤◌, ◌<◌}
 use native.Mathlib.Omega.{arith}
+use Rattle.std.specs.Prelude.{Option, Some, None}
 use Rattle.defs.specs.declared.Position.{Position}
 use Rattle.defs.specs.Meaning.Limits.{most_turn}
 use Rattle.defs.specs.Meaning.Outline.{sides}
@@ -62,8 +62,8 @@ module _ (W R N g : ℕ) (Occupied : Cells) (o : List ℕ) (mask : ℕ) where
 
   -- what is found in S: the best of those that fit, or none, where none fits
   abbrev Finds : (Position → Type 0) → Option Position → Type 0
-  Finds S none = (q : Position) → S q → ¬ Fits W R N g Occupied o mask q
-  Finds S (some p) = BestOf S p
+  Finds S None = (q : Position) → S q → ¬ Fits W R N g Occupied o mask q
+  Finds S (Some p) = BestOf S p
 
   -- the best of S is the best of U, where each other of U comes later
   best_of_more : (S U : Position → Type 0) (p : Position) → U p → BestOf S p →
@@ -83,16 +83,16 @@ module _ (W R N g : ℕ) (Occupied : Cells) (o : List ℕ) (mask : ℕ) where
 
   better_finds : 1 ≤ R → (t : ℕ) (x y : Option Position) → Finds (Below t) x → Finds (Turned t) y → Finds (Below (suc t)) (better R o x y)
   unfolding better
-  better_finds Rpos t none none a b = λ r h f. ⊎_elim (λ l. a r l f) (λ e. b r e f) (below_or_turned t r h)
-  better_finds Rpos t none (some q) a b =
+  better_finds Rpos t None None a b = λ r h f. ⊎_elim (λ l. a r l f) (λ e. b r e f) (below_or_turned t r h)
+  better_finds Rpos t None (Some q) a b =
       best_of_more (Turned t) (Below (suc t)) q (omega (arith, b.member)) b
       (λ r h f. ⊎_elim (λ l. absurd (a r l f)) inl (below_or_turned t r h))
-  better_finds Rpos t (some p) none a b =
+  better_finds Rpos t (Some p) None a b =
       best_of_more (Below t) (Below (suc t)) p (omega (arith, a.member)) a
       (λ r h f. ⊎_elim inl (λ e. absurd (b r e f)) (below_or_turned t r h))
-  better_finds Rpos t (some p) (some q) a b = go (beats R o q p) refl
+  better_finds Rpos t (Some p) (Some q) a b = go (beats R o q p) refl
     where
-      go : (c : Bool) → beats R o q p ≡ c → Finds (Below (suc t)) (cond c (some q) (some p))
+      go : (c : Bool) → beats R o q p ≡ c → Finds (Below (suc t)) (cond c (Some q) (Some p))
       go true e =
           best_of_more (Turned t) (Below (suc t)) q (omega (arith, b.member)) b
           (λ r h f. ⊎_elim (λ l. inr (before_best (Below t) q p (beats_first R o q p e) a r l f)) inl (below_or_turned t r h))
@@ -110,8 +110,8 @@ module _ (W R N g : ℕ) (held : List (List Rows)) (o : List ℕ) (mask : ℕ)
   allowed_finds t a = go (first_free W R N g held o t) refl
     where
       go : (x : Option Position) → first_free W R N g held o t ≡ x → Found (Turned t) x
-      go none e = first_none W R N g held o mask keeps some_side Rpos table t a e
-      go (some p) e =
+      go None e = first_none W R N g held o mask keeps some_side Rpos table t a e
+      go (Some p) e =
           let f = first_found W R N g held o mask keeps some_side Rpos table t a p e in
           record {
             member = f.0;
@@ -119,10 +119,10 @@ module _ (W R N g : ℕ) (held : List (List Rows)) (o : List ℕ) (mask : ℕ)
             first = λ q u g n. before_later R o p q Rpos (f.0 ∙ sym u) (f.1.least q g (u ∙ sym f.0) n);
           }
 
-  turn_finds : (t : ℕ) → t ≤ most_turn → Found (Turned t) (cond (allowedb mask t) (first_free W R N g held o t) none)
+  turn_finds : (t : ℕ) → t ≤ most_turn → Found (Turned t) (cond (allowedb mask t) (first_free W R N g held o t) None)
   turn_finds t h = go (allowedb mask t) refl
     where
-      go : (b : Bool) → allowedb mask t ≡ b → Found (Turned t) (cond b (first_free W R N g held o t) none)
+      go : (b : Bool) → allowedb mask t ≡ b → Found (Turned t) (cond b (first_free W R N g held o t) None)
       go true e = allowed_finds t ((allowed mask t h).0 e)
       go false e = λ q u f. false≢true (sym e ∙ (allowed mask t h).1 (subst (Allows mask) u f.allowed))
 
@@ -135,21 +135,21 @@ module _ (W R N g : ℕ) (held : List (List Rows)) (o : List ℕ) (mask : ℕ)
   found : (x : Option Position) → best_below W R N g held o mask 4 ≡ x → Found (Below 4) x
   found x e = subst (Found (Below 4)) e (finds 4 (omega arith))
 
-  pub best_found : (p : Position) → best_below W R N g held o mask 4 ≡ some p → Best W R N g (In held) o mask p
+  pub best_found : (p : Position) → best_below W R N g held o mask 4 ≡ Some p → Best W R N g (In held) o mask p
   best_found p e =
-      let b = found (some p) e in
+      let b = found (Some p) e in
       record { fits = b.fits; first = λ q f n. b.first q (omega (arith, f.allowed.turn)) f n }
 
-  pub none_found : best_below W R N g held o mask 4 ≡ none → ¬ Question13 W R N g (In held) o mask
+  pub none_found : best_below W R N g held o mask 4 ≡ None → ¬ Question13 W R N g (In held) o mask
   unfolding Question13
-  none_found e q = found none e q.0 (omega (arith, q.1.allowed.turn)) q.1
+  none_found e q = found None e q.0 (omega (arith, q.1.allowed.turn)) q.1
 
   -- "13. Is there a free position?"
-  pub none_exactly : (best_below W R N g held o mask 4 ≡ none) ↔ ¬ Question13 W R N g (In held) o mask
+  pub none_exactly : (best_below W R N g held o mask 4 ≡ None) ↔ ¬ Question13 W R N g (In held) o mask
   unfolding Question13
   none_exactly = (none_found, λ no_place. go no_place (best_below W R N g held o mask 4) refl)
     where
       go : ¬ Question13 W R N g (In held) o mask → (x : Option Position) → best_below W R N g held o mask 4 ≡ x →
-          best_below W R N g held o mask 4 ≡ none
-      go no_place none e = e
-      go no_place (some p) e = absurd (no_place (p, (best_found p e).fits))
+          best_below W R N g held o mask 4 ≡ None
+      go no_place None e = e
+      go no_place (Some p) e = absurd (no_place (p, (best_found p e).fits))

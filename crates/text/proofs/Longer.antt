@@ -2,7 +2,6 @@
 -- Assumes nothing.
 use mathlib.Core.Path.{◌≡◌, refl, sym, ap, ◌∙◌}
 use mathlib.Core.Bool.{Bool, true, false}
-use mathlib.Core.Option.{some}
 use mathlib.Core.List.{List}
 use Prim.Native.Nat.{ℕ, ◌≤◌, ◌<◌}
 use native.Mathlib.Omega.{arith}
@@ -10,6 +9,7 @@ use lib.Dec.{leb}
 use lib.ListN.{length, take}
 use lib.Seq.{take_all, length-take-le, get_or-take}
 use borrow.Author.Tests.{leb-true, leb-false, le-leb}
+use Rattle.std.specs.Prelude.{Some}
 use Rattle.defs.specs.Meaning.Limits.{most_bytes}
 use Rattle.defs.specs.Computing.Calls.{refusal}
 use Rattle.defs.specs.Computing.Sheets.{q1b, q2b, sheet_no}
@@ -29,7 +29,7 @@ abbrev number_of : Bool → ℕ
 number_of true = 2
 number_of false = 1
 
-refused_by : (b : List ℕ) (t : Bool) → q1b b ≡ t → most_bytes < length b → (fourth : Bool) → sheet_no b true fourth ≡ some (refusal (number_of t) 0)
+refused_by : (b : List ℕ) (t : Bool) → q1b b ≡ t → most_bytes < length b → (fourth : Bool) → sheet_no b true fourth ≡ Some (refusal (number_of t) 0)
 unfolding sheet_no
 refused_by b true e l fourth = rw (e, too_long b l)
 refused_by b false e l fourth = rw e

@@ -7,8 +7,8 @@ ghost use Rattle.defs.specs.Computing.Text.{lay_text};
 ghost use Rattle.lent.specs.Strips.{StripFor};
 ghost use Rattle.text.specs.Lent.{Answered, Passes, Shows};
 
-use defs::Laying;
-use records::Chain;
+use defs::{Refusal, Totals};
+
 
 // The text of every job fits.
 pub const ROOM: usize = 8192;
@@ -19,23 +19,23 @@ fn pieces_of(sheet: &[u8]) -> usize
     ensures { result ≡ length (piece_records sheet.now) }
 {
     match records::piece_chain(sheet) {
-        Chain::Whole(n) => n,
-        Chain::Broken => 0,
+        Some(n) => n,
+        None => 0,
     }
 }
 
 // What is printed of an answer and its output.
-fn put_answer(sheet: &[u8], words: &[u16], a: Laying, out: &mut [u8]) -> usize
+fn put_answer(sheet: &[u8], words: &[u16], a: Result<Totals, Refusal>, out: &mut [u8]) -> usize
     requires fact_1 { Answered sheet.now words.now a }
     requires fact_2 { 8192 ≤ length out.old }
     ensures { Shows sheet.now out.new result }
 {
     match a {
-        Laying::Laid(t) => {
+        Ok(t) => {
             let f = reads::figures_of(sheet);
             layout::put_laid(out, f, words, pieces_of(sheet), t)
         }
-        Laying::Refused(r) => layoutlines::put_refused(out, r),
+        Err(r) => layoutlines::put_refused(out, r),
     }
 }
 

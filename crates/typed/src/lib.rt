@@ -4,7 +4,7 @@
 ghost use Rattle.std.specs.Prelude.{◌+◌, ◌≤◌, length};
 ghost use Rattle.typed.specs.Fits.{Fits};
 
-use defs::{Refusal, Writing};
+use defs::Refusal;
 use lines::{Job, Text};
 use std::fs::Files;
 use tokens::fault::Fault;
@@ -156,7 +156,7 @@ fn sheet_within(n: u32, room: usize, noted: usize, gap: u16) -> Made
 }
 
 // The write call for a job whose pieces stand in the list.
-fn write(job: Job, list: &mut [u16], out: &mut [u8]) -> Writing
+fn write(job: Job, list: &mut [u16], out: &mut [u8]) -> Result<u32, Refusal>
     requires { 1 ≤ length list.old }
 {
     list[0] = job.pieces;
@@ -170,11 +170,11 @@ fn sheet_of_job(job: Job, list: &mut [u16], lines: &[u16], out: &mut [u8], notes
     ensures { Fits result (length out.new) (length notes.new) }
 {
     match write(job, list, out) {
-        Writing::Written(n) => {
+        Ok(n) => {
             let noted = notes::put_notes(notes, list, lines);
             sheet_within(n, out.len(), noted, job.gap)
         }
-        Writing::Refused(r) => put_refused(out, r, refused_line(r, job.strip, lines)),
+        Err(r) => put_refused(out, r, refused_line(r, job.strip, lines)),
     }
 }
 

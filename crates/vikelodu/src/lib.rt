@@ -59,7 +59,7 @@ pub extern "C" fn vikelodu_ask_5(
     ensures { AskPacked strip.now outline.now mask work.old result.answer result.tries strip.exit.now work.new }
 {
     let a = ask::ask(strip, outline, mask, work);
-    let p = a.asking;
+    let p = a.placing;
     Tried {
         answer: packing::pack_asking(p),
         tries: a.tries,
@@ -212,7 +212,7 @@ pub extern "C" fn vikelodu_ask_bytes_5(
     ensures { AskBytesPacked strip.now outline.now mask work.old result.answer result.tries strip.exit.now work.new }
 {
     let a = byteput::ask_bytes(strip, outline, mask, work);
-    let p = a.asking;
+    let p = a.placing;
     Tried {
         answer: packing::pack_asking(p),
         tries: a.tries,

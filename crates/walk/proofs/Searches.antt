@@ -6,11 +6,11 @@ use mathlib.Core.Logic.Iff
 use mathlib.Core.Logic.{◌↔◌}
 use mathlib.Core.Bool.{Bool, true, cond}
 use mathlib.Core.List.{List, []}
-use mathlib.Core.Option.{Option, none, some}
 use Prim.Native.Nat.{ℕ, ◌+◌, ◌-◌, ◌≤◌, ◌<◌}
 use native.Mathlib.Omega.{arith}
 use lib.ListN.{get_or}
 use borrow.Author.Tests.{not-true}
+use Rattle.std.specs.Prelude.{Option, Some, None}
 use Rattle.defs.specs.declared.Position.{Position}
 use Rattle.defs.specs.Meaning.Turn.{extent_x, extent_y}
 use Rattle.defs.specs.Meaning.Placing.{columns_for}
@@ -26,7 +26,6 @@ use Rattle.tables.proofs.Flats.{in_flat, in_columns, table_flat}
 use Rattle.tables.proofs.PieceWords.{piece_rows, piece_runs_lem}
 use Rattle.tables.proofs.FreeTest.{Shares, test_by_column, drop_n_at}
 use Rattle.laws.proofs.First.{first_of, none_of}
-use Rattle.walk.specs.declared.Spot.TheVariants.{Found, None}
 use Rattle.walk.specs.Free.{Frame, FreeTo, NoHeight, Searched}
 
 module _ {f l h r : List ℕ} {W N n p : ℕ} (o : List ℕ) (t R g : ℕ) (small : g ≤ 400) (laid : Laid f l h W N n) (stands : Stands (piece_runs o t R g) r p) where
@@ -81,20 +80,20 @@ module _ {f l h r : List ℕ} {W N n p : ℕ} (o : List ℕ) (t R g : ℕ) (smal
       (λ i. subst Valid (sym (drop_n_at c held i)) ((table_flat laid).valid (c + i)))))
 
   abbrev at_height_lem : ℕ → ℕ → Option Position
-  at_height_lem c y = cond (test c y) (some (position t c y)) none
+  at_height_lem c y = cond (test c y) (Some (position t c y)) None
 
-  found_at : (c y : ℕ) → c + wide ≤ N → FreeTo f l h r N c y p → at_height_lem c y ≡ some (position t c y)
+  found_at : (c y : ℕ) → c + wide ≤ N → FreeTo f l h r N c y p → at_height_lem c y ≡ Some (position t c y)
   found_at c y fits free = rw ((free_is c y fits).0 free)
 
-  none_at : (c y : ℕ) → c + wide ≤ N → ¬ FreeTo f l h r N c y p → at_height_lem c y ≡ none
+  none_at : (c y : ℕ) → c + wide ≤ N → ¬ FreeTo f l h r N c y p → at_height_lem c y ≡ None
   none_at c y fits taken =
-      ap (λ (b : Bool). cond b (some (position t c y)) none) (not-true (test c y) ((not_decides (Iff.symm (free_is c y fits))).1 taken))
+      ap (λ (b : Bool). cond b (Some (position t c y)) None) (not-true (test c y) ((not_decides (Iff.symm (free_is c y fits))).1 taken))
 
-  none_in : (c : ℕ) → c + wide ≤ N → NoHeight f l h r N W p tall c → first_from (at_height_lem c) 0 (W + 1 - tall) ≡ none
+  none_in : (c : ℕ) → c + wide ≤ N → NoHeight f l h r N W p tall c → first_from (at_height_lem c) 0 (W + 1 - tall) ≡ None
   none_in c fits no-height = none_of (at_height_lem c) 0 _ (λ y a b. none_at c y fits (no-height.none y (omega arith)))
 
-  pub found_is : {c y : ℕ} → Searched f l h r N W p wide tall (Found c y) →
-      first_free W R N g held o t ≡ some (position t c y)
+  pub found_is : {c y : ℕ} → Searched f l h r N W p wide tall (Some (c, y)) →
+      first_free W R N g held o t ≡ Some (position t c y)
   unfolding first_free
   found_is {c} {y} spot =
       first_of (λ c. first_from (at_height_lem c) 0 (W + 1 - tall)) 0 _ (position t c y)
@@ -114,6 +113,6 @@ module _ {f l h r : List ℕ} {W N n p : ℕ} (o : List ℕ) (t R g : ℕ) (smal
         before = λ b a u. none_in b (omega (arith, spot.fits)) (spot.least b u);
       })
 
-  pub none_is : Searched f l h r N W p wide tall None → first_free W R N g held o t ≡ none
+  pub none_is : Searched f l h r N W p wide tall None → first_free W R N g held o t ≡ None
   unfolding first_free
   none_is no-spot = none_of _ 0 _ (λ c a u. none_in c (omega arith) (no-spot c (omega arith)))

@@ -4,13 +4,13 @@
 use mathlib.Core.Path.{◌≡◌, refl, sym, ap, subst, ◌∙◌}
 use mathlib.Core.Bool.{Bool, false, cond}
 use mathlib.Core.List.{List, []}
-use mathlib.Core.Option.{none, some}
 use Prim.Native.Nat.{ℕ, zero, suc, ◌+◌, ◌-◌, ◌≤◌, ◌<◌, max}
 use native.Mathlib.Omega.{arith}
 use native.Mathlib.Numerals.{add-one}
 use lib.Dec.{ltb}
 use lib.ListN.{length, get_or}
 use borrow.Author.Tests.{ltb-true, lt-ltb, le-leb, lt-leb}
+use Rattle.std.specs.Prelude.{Some, None}
 use Rattle.defs.specs.Meaning.Turn.{extent_x, extent_y}
 use Rattle.defs.specs.Meaning.Placing.{columns_for}
 use Rattle.defs.specs.Computing.Test.{any}
@@ -63,7 +63,7 @@ module _ {f l h r : List ℕ} {W N n p : ℕ} (o : List ℕ) (t R g : ℕ) (smal
 
   clear_run : {m i : ℕ} {rows : Rows} (c y : ℕ) → c + i < N → m < p → RunAt r m i rows →
       ((j : ℕ) → run_low r m ≤ j → j < run_high r m → ¬ Occupied f l h (c + run_column r m) (y + j)) →
-      lowest_met y rows (get_or (there c) i []) ≡ none
+      lowest_met y rows (get_or (there c) i []) ≡ None
   unfolding rows_from
   clear_run {m} {i} {rows} c y fits few run clear =
       ap (lowest_met y rows) (there_column c i fits) ∙
@@ -71,7 +71,7 @@ module _ {f l h r : List ℕ} {W N n p : ℕ} (o : List ℕ) (t R g : ℕ) (smal
 
   met_run : {k i : ℕ} {rows : Rows} {z : ℕ} (c y : ℕ) → c + i < N → RunAt r k i rows →
       (m : Lands f l h (c + run_column r k) (run_low r k) (run_high r k) y z) →
-      lowest_met y rows (get_or (there c) i []) ≡ some (row_at l h m.which)
+      lowest_met y rows (get_or (there c) i []) ≡ Some (row_at l h m.which)
   unfolding rows_from meets
   met_run {k} {i} {rows} c y fits run m =
       let low = subst (λ (a : ℕ). get_or f (c + a) 0 ≤ m.which) run.column m.lowest.from in

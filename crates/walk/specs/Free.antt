@@ -1,12 +1,8 @@
 -- A table laid flat, a piece's runs, and the columns and heights at which the piece is free.
 -- Assumes nothing.
-use Rattle.std.specs.Prelude.{List, ℕ, ◌+◌, ◌≤◌, ◌<◌}
+use Rattle.std.specs.Prelude.{List, ℕ, ◌+◌, ◌≤◌, ◌<◌, Option, Some, None}
 use Rattle.tables.specs.Flat.{Occupied, Laid}
 use Rattle.tables.specs.Piece.{run_column, run_low, run_high, PieceRuns}
-use Rattle.walk.specs.declared.Height.{Height}
-use Rattle.walk.specs.declared.Height.TheVariants.{Up, Full}
-use Rattle.walk.specs.declared.Spot.{Spot}
-use Rattle.walk.specs.declared.Spot.TheVariants.{Found, None}
 
 -- a table of N columns and width W laid flat, and p runs of a piece, which is w columns wide and t rows tall; its runs may go further,
 -- at most 400 rows up
@@ -51,9 +47,9 @@ pub record Least (f l h r : List ℕ) (N W p t c y : ℕ) : Type 0 where
 pub record NoHeight (f l h r : List ℕ) (N W p t c : ℕ) : Type 0 where
   pub none : (z : ℕ) → z + t ≤ W → ¬ FreeTo f l h r N c z p
 
-abbrev pub Walked : (f l h r : List ℕ) (N W p t c : ℕ) → Height → Type 0
-Walked f l h r N W p t c (Up y) = Least f l h r N W p t c y
-Walked f l h r N W p t c Full = NoHeight f l h r N W p t c
+abbrev pub Walked : (f l h r : List ℕ) (N W p t c : ℕ) → Option ℕ → Type 0
+Walked f l h r N W p t c (Some y) = Least f l h r N W p t c y
+Walked f l h r N W p t c None = NoHeight f l h r N W p t c
 
 -- the least column with a free height, and the least in it
 pub record FirstSpot (f l h r : List ℕ) (N W p w t c y : ℕ) : Type 0 where
@@ -61,6 +57,6 @@ pub record FirstSpot (f l h r : List ℕ) (N W p w t c y : ℕ) : Type 0 where
   pub height : Least f l h r N W p t c y
   pub least : (b : ℕ) → b < c → NoHeight f l h r N W p t b
 
-abbrev pub Searched : (f l h r : List ℕ) (N W p w t : ℕ) → Spot → Type 0
-Searched f l h r N W p w t (Found c y) = FirstSpot f l h r N W p w t c y
+abbrev pub Searched : (f l h r : List ℕ) (N W p w t : ℕ) → Option (ℕ × ℕ) → Type 0
+Searched f l h r N W p w t (Some (c, y)) = FirstSpot f l h r N W p w t c y
 Searched f l h r N W p w t None = (c : ℕ) → c + w ≤ N → NoHeight f l h r N W p t c

@@ -1,10 +1,8 @@
 -- The walk of S-5 over a table laid flat: how many tries it makes in a column from a height on, and in a turn from a column on.
 -- Assumes nothing.
-use Rattle.std.specs.Prelude.{Bool, true, false, List, ℕ, suc, ◌+◌, ◌≤◌, ◌<◌}
+use Rattle.std.specs.Prelude.{Bool, true, false, List, ℕ, suc, ◌+◌, ◌≤◌, ◌<◌, Option, Some, None}
 use Rattle.tables.specs.Piece.{run_column, run_low, run_high}
 use Rattle.tries.specs.Tries.{Lands}
-use Rattle.walk.specs.declared.Height.{Height}
-use Rattle.walk.specs.declared.Height.TheVariants.{Up, Full}
 use Rattle.walk.specs.declared.ColumnWalk.{ColumnWalk}
 use Rattle.walk.specs.declared.TurnWalk.{TurnWalk}
 use Rattle.walk.specs.Free.{FreeTo, Walked, Searched}
@@ -26,9 +24,9 @@ pub data TurnSteps (f l h r : List ℕ) (N W p w t : ℕ) : ℕ → ℕ → Type
       TurnSteps f l h r N W p w t c (n + m)
 
 -- whether a height was found
-abbrev pub is_up : Height → Bool
-is_up (Up y) = true
-is_up Full = false
+abbrev pub is_up : Option ℕ → Bool
+is_up (Some y) = true
+is_up None = false
 
 -- a column: its least free height, and the tries; at most one for each height
 pub record WalkedColumn (f l h r : List ℕ) (N W p t c : ℕ) (a : ColumnWalk) : Type 0 where

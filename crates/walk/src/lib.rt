@@ -8,29 +8,17 @@ ghost use Rattle.walk.specs.Steps.{WalkedColumn, WalkedTurn};
 
 use tries::Tried;
 
-#[derive(Clone, Copy)]
-pub enum Height {
-    Up(u16),
-    Full,
-}
-
-#[derive(Clone, Copy)]
-pub enum Spot {
-    Found(usize, u16),
-    None,
-}
-
 // What the walk of a column answers: its least free height, and the tries.
 #[derive(Clone, Copy)]
 pub struct ColumnWalk {
-    pub height: Height,
+    pub height: Option<u16>,
     pub tries: u32,
 }
 
 // What the walk of a turn answers: its least free position, and the tries.
 #[derive(Clone, Copy)]
 pub struct TurnWalk {
-    pub spot: Spot,
+    pub spot: Option<(usize, u16)>,
     pub tries: u32,
 }
 
@@ -128,7 +116,7 @@ pub fn walk_column(
             Tried::Jump(z) => {
                 if top < z {
                     return ColumnWalk {
-                        height: Height::Full,
+                        height: None,
                         tries,
                     };
                 }
@@ -141,17 +129,17 @@ pub fn walk_column(
         }
     }
     ColumnWalk {
-        height: Height::Up(y),
+        height: Some(y),
         tries,
     }
 }
 
 // The walk of a turn in which no column has room.
 fn untried() -> TurnWalk
-    ensures { result ≡ record { spot = Spot.None; tries = 0 } }
+    ensures { result ≡ record { spot = None; tries = 0 } }
 {
     TurnWalk {
-        spot: Spot::None,
+        spot: None,
         tries: 0,
     }
 }
@@ -177,19 +165,19 @@ pub fn walk_turn(first: &[u16], lows: &[u16], highs: &[u16], runs: &[u16], s: Se
         tries += x.tries;
         let at = x.height;
         match at {
-            Height::Up(y) => {
+            Some(y) => {
                 return TurnWalk {
-                    spot: Spot::Found(c, y),
+                    spot: Some((c, y)),
                     tries,
                 };
             }
-            Height::Full => {
+            None => {
                 c += 1;
             }
         }
     }
     TurnWalk {
-        spot: Spot::None,
+        spot: None,
         tries,
     }
 }

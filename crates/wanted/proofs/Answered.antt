@@ -5,14 +5,14 @@ use mathlib.Core.List.{List}
 use Prim.Native.Nat.{ℕ}
 use native.Mathlib.Omega.{arith}
 use lib.ListN.{length}
+use Rattle.std.specs.Prelude.{Result, Ok, Err}
 use Rattle.defs.specs.declared.Refusal.{Refusal}
 use Rattle.defs.specs.declared.Position.{Position}
-use Rattle.defs.specs.declared.Placing.{Placing}
-use Rattle.defs.specs.declared.Placing.TheVariants.{Placed, Refused}
 use Rattle.defs.specs.declared.PlacingTries.{PlacingTries}
 use Rattle.defs.specs.Meaning.Strip.{width_of, resolution_of, columns_of, gap_of}
 use Rattle.defs.specs.Computing.Words.{well_formedb, records_of, written}
 use Rattle.defs.specs.Computing.Calls.{refusal, place_answer, place_tries, commit_answer, PlaceLeaves}
+use Rattle.laws.proofs.Granted.{no_grant}
 use Rattle.tables.specs.Flat.{table_of}
 use Rattle.search.specs.declared.Way.TheVariants.{Walk}
 use Rattle.position.specs.Table.{CountedOn}
@@ -21,7 +21,7 @@ use Rattle.wanted.specs.declared.Wanted.{Wanted}
 use Rattle.wanted.specs.declared.Wanted.TheVariants.{Best, At}
 use Rattle.wanted.specs.Answers.{answer_on, answer_to, count_on, count_to, OnTable, Looked, Put}
 
-module _ {f l h f' l' h' o : List ℕ} {W R N g Q words : ℕ} {w : Wanted} {a : Placing} where
+module _ {f l h f' l' h' o : List ℕ} {W R N g Q words : ℕ} {w : Wanted} {a : Result Position Refusal} where
   pub best : {mask n : ℕ} → w ≡ Best mask → CountedOn f l h f' l' h' o W R N g Q mask words Walk a n →
       OnTable f l h f' l' h' o W R N g Q w words a n
   unfolding answer_on count_on
@@ -36,7 +36,7 @@ module _ {f l h f' l' h' o : List ℕ} {W R N g Q words : ℕ} {w : Wanted} {a :
       (record { answer = x.answer; counted = refl; next = x.next })
 
 -- question 5
-pub ill_refused : (w : Wanted) (s o : List ℕ) (words : ℕ) → well_formedb s ≡ false → answer_to w s o words ≡ Refused (refusal 5 0)
+pub ill_refused : (w : Wanted) (s o : List ℕ) (words : ℕ) → well_formedb s ≡ false → answer_to w s o words ≡ Err (refusal 5 0)
 unfolding answer_to place_answer commit_answer
 ill_refused (Best mask) s o words e = rw e
 ill_refused (At p) s o words e = rw e
@@ -46,21 +46,18 @@ unfolding count_to place_tries
 ill_untried (Best mask) s o words e = rw e
 ill_untried (At p) s o words e = refl
 
-pub not_placed : {p : Position} {r : Refusal} → ¬ (Refused r ≡ Placed p)
-not_placed e = let z : ◌≡◌ {A = ℕ} 0 1 = cc in omega arith
-
 pub not_formed : {s o f l h : List ℕ} (w : Wanted) {words : ℕ} {a : PlacingTries} → well_formedb s ≡ false →
-    a ≡ record { placing = Refused (refusal 5 0); tries = 0 } → Looked s o w words a.placing a.tries f l h
+    a ≡ record { placing = Err (refusal 5 0); tries = 0 } → Looked s o w words a.placing a.tries f l h
 not_formed {s} {o} w {words} e q =
     rw q
     (record {
       answer = sym (ill_refused w s o words e);
       counted = sym (ill_untried w s o words e);
-      next = λ p t. absurd (not_placed t);
+      next = λ p t. absurd (no_grant t);
     })
 
-module _ {s o f l h : List ℕ} {w : Wanted} {words : ℕ} {a : Placing} {n : ℕ} (x : Looked s o w words a n f l h) where
-  pub put_placed : {p : Position} {s' : List ℕ} → a ≡ Placed p →
+module _ {s o f l h : List ℕ} {w : Wanted} {words : ℕ} {a : Result Position Refusal} {n : ℕ} (x : Looked s o w words a n f l h) where
+  pub put_placed : {p : Position} {s' : List ℕ} → a ≡ Ok p →
       s' ≡ written (width_of s) (resolution_of s) (columns_of s) (gap_of s) (records_of (columns_of s) (length s)) (table_of f l h (columns_of s)) →
       Put s o w words a n s'
   unfolding PlaceLeaves
@@ -68,10 +65,10 @@ module _ {s o f l h : List ℕ} {w : Wanted} {words : ℕ} {a : Placing} {n : �
       record {
         answer = x.answer;
         counted = x.counted;
-        leaves = subst (λ (b : Placing). PlaceLeaves s o b s') (sym q) (rw e (x.next p q).left);
+        leaves = subst (λ (b : Result Position Refusal). PlaceLeaves s o b s') (sym q) (rw e (x.next p q).left);
       }
 
-  pub put_refused : {r : Refusal} → a ≡ Refused r → Put s o w words a n s
+  pub put_refused : {r : Refusal} → a ≡ Err r → Put s o w words a n s
   unfolding PlaceLeaves
   put_refused q =
-      record { answer = x.answer; counted = x.counted; leaves = subst (λ (b : Placing). PlaceLeaves s o b s) (sym q) refl }
+      record { answer = x.answer; counted = x.counted; leaves = subst (λ (b : Result Position Refusal). PlaceLeaves s o b s) (sym q) refl }

@@ -5,8 +5,9 @@ use mathlib.Core.List.{List, []}
 use Prim.Native.Nat.{ℕ, ◌≤◌}
 use native.Mathlib.Omega.{arith}
 use lib.ListN.{length, get_or}
+use Rattle.std.specs.Prelude.{Result}
+use Rattle.defs.specs.declared.Refusal.{Refusal}
 use Rattle.defs.specs.declared.Position.{Position}
-use Rattle.defs.specs.declared.Placing.{Placing}
 use Rattle.defs.specs.Meaning.Limits.{leading_words}
 use Rattle.defs.specs.Meaning.Strip.{width_of, resolution_of, columns_of, gap_of}
 use Rattle.defs.specs.Computing.Cells.{Rows}
@@ -126,7 +127,7 @@ module _ {s f l h : List ℕ} {t : ℕ} (held : Holds_runs s f l h t) where
     entered_of : Entered s o p f' l' h'
     entered_of = record { leading = leading; flat = next_flat; few = next_few; room = room; left = left }
 
-  pub looked : {f' l' h' o : List ℕ} {w : Wanted} {words q : ℕ} {a : Placing} {n : ℕ} → q ≡ Q →
+  pub looked : {f' l' h' o : List ℕ} {w : Wanted} {words q : ℕ} {a : Result Position Refusal} {n : ℕ} → q ≡ Q →
       OnTable f l h f' l' h' o W R N g q w words a n → Looked s o w words a n f' l' h'
   looked {f'} {l'} {h'} {o} {w} {words} e on =
       record {

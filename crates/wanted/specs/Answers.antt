@@ -1,8 +1,7 @@
 -- A piece wanted on a strip: the answer to the strip's words, and the strip after it. Assumes nothing.
-use Rattle.std.specs.Prelude.{◌≡◌, List, ℕ, ◌≤◌, length, get_or}
+use Rattle.std.specs.Prelude.{◌≡◌, List, ℕ, ◌≤◌, length, get_or, Result, Ok}
+use Rattle.defs.specs.declared.Refusal.{Refusal}
 use Rattle.defs.specs.declared.Position.{Position}
-use Rattle.defs.specs.declared.Placing.{Placing}
-use Rattle.defs.specs.declared.Placing.TheVariants.{Placed}
 use Rattle.defs.specs.Meaning.Limits.{leading_words}
 use Rattle.defs.specs.Meaning.Strip.{width_of, resolution_of, columns_of, gap_of}
 use Rattle.defs.specs.Computing.Cells.{Rows}
@@ -16,11 +15,11 @@ use Rattle.wanted.specs.declared.Wanted.{Wanted}
 use Rattle.wanted.specs.declared.Wanted.TheVariants.{Best, At}
 
 -- the answers of place and of commit, on a strip that holds these runs and on a strip's words
-unfoldable pub answer_on : Wanted → ℕ → ℕ → ℕ → ℕ → ℕ → List (List Rows) → List ℕ → ℕ → Placing
+unfoldable pub answer_on : Wanted → ℕ → ℕ → ℕ → ℕ → ℕ → List (List Rows) → List ℕ → ℕ → Result Position Refusal
 answer_on (Best mask) W R N g Q held o words = place_on W R N g Q held o mask words
 answer_on (At p) W R N g Q held o words = placed_at p (commit_on W R N g Q held o p words)
 
-unfoldable pub answer_to : Wanted → List ℕ → List ℕ → ℕ → Placing
+unfoldable pub answer_to : Wanted → List ℕ → List ℕ → ℕ → Result Position Refusal
 answer_to (Best mask) s o words = place_answer s o mask words
 answer_to (At p) s o words = placed_at p (commit_answer s o p words)
 
@@ -33,7 +32,7 @@ unfoldable pub count_to : Wanted → List ℕ → List ℕ → ℕ → ℕ
 count_to (Best mask) s o words = place_tries s o mask words
 count_to (At p) s o words = 0
 
-pub record OnTable (f l h f' l' h' o : List ℕ) (W R N g Q : ℕ) (w : Wanted) (words : ℕ) (a : Placing) (n : ℕ) : Type 0 where
+pub record OnTable (f l h f' l' h' o : List ℕ) (W R N g Q : ℕ) (w : Wanted) (words : ℕ) (a : Result Position Refusal) (n : ℕ) : Type 0 where
   pub answer : a ≡ answer_on w W R N g Q (table_of f l h N) o words
   pub counted : n ≡ count_on w W R N g (table_of f l h N) o words
   pub next : NextIf f l h f' l' h' o W R N g Q a
@@ -48,12 +47,12 @@ pub record Entered (s o : List ℕ) (p : Position) (f l h : List ℕ) : Type 0 w
       EnteredLeaves s o p
       (written (width_of s) (resolution_of s) (columns_of s) (gap_of s) (records_of (columns_of s) (length s)) (table_of f l h (columns_of s)))
 
-pub record Looked (s o : List ℕ) (w : Wanted) (words : ℕ) (a : Placing) (n : ℕ) (f l h : List ℕ) : Type 0 where
+pub record Looked (s o : List ℕ) (w : Wanted) (words : ℕ) (a : Result Position Refusal) (n : ℕ) (f l h : List ℕ) : Type 0 where
   pub answer : a ≡ answer_to w s o words
   pub counted : n ≡ count_to w s o words
-  pub next : (p : Position) → a ≡ Placed p → Entered s o p f l h
+  pub next : (p : Position) → a ≡ Ok p → Entered s o p f l h
 
-pub record Put (s o : List ℕ) (w : Wanted) (words : ℕ) (a : Placing) (n : ℕ) (s' : List ℕ) : Type 0 where
+pub record Put (s o : List ℕ) (w : Wanted) (words : ℕ) (a : Result Position Refusal) (n : ℕ) (s' : List ℕ) : Type 0 where
   pub answer : a ≡ answer_to w s o words
   pub counted : n ≡ count_to w s o words
   pub leaves : PlaceLeaves s o a s'

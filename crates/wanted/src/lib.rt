@@ -7,8 +7,7 @@ ghost use Rattle.decode.specs.Decodes.{Holds_runs};
 ghost use Rattle.position.specs.Table.{Tabled};
 ghost use Rattle.wanted.specs.Answers.{OnTable, Looked, Put};
 
-use decode::Decoded;
-use defs::{Figures, Placing, PlacingTries, Position};
+use defs::{Figures, PlacingTries, Position};
 use search::Way;
 
 #[derive(Clone, Copy)]
@@ -118,10 +117,10 @@ pub fn look(
     let mut lows = [0u16; limits::MOST_RECORDS];
     let mut highs = [0u16; limits::MOST_RECORDS];
     match decode::decode(strip, &mut first, &mut lows, &mut highs) {
-        Decoded::Runs(t) => look_decoded(
+        Some(t) => look_decoded(
             strip, &first, &lows, &highs, t, o, wanted, work, first2, lows2, highs2,
         ),
-        Decoded::Ill => position::untried(5, 0),
+        None => position::untried(5, 0),
     }
 }
 
@@ -141,7 +140,7 @@ fn put_with(
     let x = look(strip, o, wanted, work, first2, lows2, highs2);
     let a = x.placing;
     match a {
-        Placing::Placed(p) => {
+        Ok(p) => {
             let g = Figures {
                 width: strip[limits::WIDTH],
                 resolution: strip[limits::RESOLUTION],
@@ -152,7 +151,7 @@ fn put_with(
             encode::encode(strip, g, gap, first2, lows2, highs2, n);
             x
         }
-        Placing::Refused(r) => x,
+        Err(r) => x,
     }
 }
 

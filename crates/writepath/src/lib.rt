@@ -8,18 +8,8 @@ ghost use Rattle.pathdefs.specs.Meaning.Path.{step_bytes};
 ghost use Rattle.pathdefs.specs.Computing.Paths.{lines_bytes, path_bytes, PathWriteStep};
 ghost use Rattle.writepath.specs.Fits.{PathFits};
 
-use checks::Checked;
-use defs::{Refusal, Writing};
+use defs::{Refusal, refused};
 use pathdefs::Step;
-
-fn refused(number: u16, ordinal: u16) -> Writing
-    ensures { result ≡ Writing.Refused (record { number = number; ordinal = ordinal }) }
-{
-    Writing::Refused(Refusal {
-        number: number,
-        ordinal: ordinal,
-    })
-}
 
 // The lines to the vertices after the first, and the close.
 fn put_lines(outline: &[u16], out: &mut [u8])
@@ -47,7 +37,7 @@ fn put_path(outline: &[u16], out: &mut [u8])
 }
 
 // Question 15 of an outline that passes 7 and 8, and the path.
-fn write_passed(outline: &[u16], out: &mut [u8]) -> Writing
+fn write_passed(outline: &[u16], out: &mut [u8]) -> Result<u32, Refusal>
     requires { (q7b outline.now ≡ true) × (q8b outline.now ≡ true) }
     ensures { PathWriteStep outline.now out.old result out.new }
 {
@@ -56,15 +46,15 @@ fn write_passed(outline: &[u16], out: &mut [u8]) -> Writing
         return refused(15, 0);
     }
     put_path(outline, out);
-    Writing::Written(size as u32)
+    Ok(size as u32)
 }
 
 // The call that writes a path. Nothing is written before every question is answered.
-pub fn write_path(outline: &[u16], out: &mut [u8]) -> Writing
+pub fn write_path(outline: &[u16], out: &mut [u8]) -> Result<u32, Refusal>
     ensures { PathWriteStep outline.now out.old result out.new }
 {
     match checks::bounds(outline) {
-        Checked::No(n) => refused(n, 1),
-        Checked::Passes(b) => write_passed(outline, out),
+        Err(n) => refused(n, 1),
+        Ok(b) => write_passed(outline, out),
     }
 }

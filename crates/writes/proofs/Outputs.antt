@@ -2,7 +2,6 @@
 -- Assumes nothing.
 use mathlib.Core.Path.{◌≡◌, sym, ap, ◌∙◌}
 use mathlib.Core.Bool.{false}
-use mathlib.Core.Option.{none, some}
 use mathlib.Core.List.{List, ◌++◌}
 use Prim.Native.Nat.{ℕ, zero, suc, ◌+◌, ◌*◌, ◌≤◌, ◌<◌}
 use native.Mathlib.Omega.{arith}
@@ -11,8 +10,8 @@ use lib.Dec.{leb}
 use lib.ListN.{length, get_or, drop}
 use lib.Seq.{sets, sets-eq}
 use borrow.Author.Tests.{le-leb, lt-leb}
-use Rattle.defs.specs.declared.Writing.{Writing}
-use Rattle.defs.specs.declared.Writing.TheVariants.{Written, Refused as NotWritten}
+use Rattle.std.specs.Prelude.{Some, None, Result, Ok, Err}
+use Rattle.defs.specs.declared.Refusal.{Refusal}
 use Rattle.defs.specs.Meaning.Limits.{most_bytes}
 use Rattle.defs.specs.Computing.Words.{limits_no}
 use Rattle.defs.specs.Computing.Calls.{refusal}
@@ -28,6 +27,8 @@ use Rattle.sheetbytes.specs.Sheets.{SheetFits}
 use Rattle.lists.specs.Asked.{FirstRefused, first_refusal}
 use Rattle.writes.specs.Steps.{Begun, Passed}
 use Rattle.recordbytes.proofs.Tails.{tails_long}
+use Rattle.limits.proofs.Passing.{some_no, same_refusal}
+use Rattle.defs.specs.Computing.Calls.{passing}
 
 -- 6
 
@@ -50,11 +51,13 @@ count_few {list = list} s = ((question_6_list list).0 s.six).most
 resolution : {W R N : ℕ} {list : List ℕ} → Begun W R N list → 1 ≤ R
 resolution {W} {R} {N} s = ((limits_none W R N).0 s.limits).resolution.at_least
 
-pub no_limits : (W R N : ℕ) (list : List ℕ) {n : ℕ} → n ≡ limits_no W R N → 0 < n → list_no W R N list ≡ some (refusal n 0)
+pub no_limits : (W R N : ℕ) (list : List ℕ) {r : Refusal} → Err r ≡ passing (limits_no W R N) → list_no W R N list ≡ Some r
 unfolding list_no
-no_limits W R N list {n} e h = rw (← e, pos_not_zero n h)
+no_limits W R N list e =
+    let s = some_no (limits_no W R N) e in
+    rw (pos_not_zero (limits_no W R N) s.0) (ap Some (sym (same_refusal s.1)))
 
-pub no_6 : (W R N : ℕ) (list : List ℕ) → limits_no W R N ≡ 0 → q6_listb list ≡ false → list_no W R N list ≡ some (refusal 6 0)
+pub no_6 : (W R N : ℕ) (list : List ℕ) → limits_no W R N ≡ 0 → q6_listb list ≡ false → list_no W R N list ≡ Some (refusal 6 0)
 unfolding list_no
 no_6 W R N list e f = rw (e, f)
 
@@ -62,14 +65,14 @@ pieces_no : {W R N : ℕ} {list : List ℕ} → Begun W R N list → list_no W R
 unfolding list_no
 pieces_no s = rw (s.limits, s.six)
 
-pub no_piece_of : {W R N : ℕ} {list : List ℕ} {n k : ℕ} → Begun W R N list → FirstRefused list n k → list_no W R N list ≡ some (refusal n k)
+pub no_piece_of : {W R N : ℕ} {list : List ℕ} {r : Refusal} → Begun W R N list → FirstRefused list r → list_no W R N list ≡ Some r
 no_piece_of {R = R} s f = pieces_no s ∙ f.every R (resolution s)
 
-no_none : {W R N : ℕ} {list : List ℕ} {v : ℕ} → Passed W R N list v → list_no W R N list ≡ none
+no_none : {W R N : ℕ} {list : List ℕ} {v : ℕ} → Passed W R N list v → list_no W R N list ≡ None
 no_none {R = R} s = pieces_no s.begun ∙ s.none_no.every R (resolution s.begun)
 
 -- the words of a list without a "no" are complete
-all_complete : (R k n : ℕ) (ws : List ℕ) → first_no (list_piece_no R) k (list_tails n ws) ≡ none → Complete n ws
+all_complete : (R k n : ℕ) (ws : List ℕ) → first_no (list_piece_no R) k (list_tails n ws) ≡ None → Complete n ws
 unfolding list_tails
 all_complete R k zero ws e = no_piece
 all_complete R k (suc n) ws e =
@@ -102,42 +105,42 @@ sheet_fits {R = R} {list = list} s l =
 
 -- the step
 
-kept : {W R N : ℕ} {list out out' : List ℕ} {a : Writing} {n k : ℕ} → a ≡ NotWritten (refusal n k) →
-    NotWritten (refusal n k) ≡ write_answer W R N list (length out) → out' ≡ out → WriteStep W R N list out a out'
+kept : {W R N : ℕ} {list out out' : List ℕ} {a : Result ℕ Refusal} {n k : ℕ} → a ≡ Err (refusal n k) →
+    Err (refusal n k) ≡ write_answer W R N list (length out) → out' ≡ out → WriteStep W R N list out a out'
 unfolding write_output
 kept {W} {R} {N} {list} {out} e f g = record { answer = e ∙ f; output = g ∙ ap (write_output W R N list out) (sym e) }
 
-pub refused_step : {W R N : ℕ} {list out out' : List ℕ} {a : Writing} {n k : ℕ} → a ≡ NotWritten (refusal n k) →
-    list_no W R N list ≡ some (refusal n k) → out' ≡ out → WriteStep W R N list out a out'
+pub refused_step : {W R N : ℕ} {list out out' : List ℕ} {a : Result ℕ Refusal} {r : Refusal} → a ≡ Err r →
+    list_no W R N list ≡ Some r → out' ≡ out → WriteStep W R N list out a out'
 unfolding write_answer
-refused_step {list = list} {out = out} e f g = kept e (sym (ap (said NotWritten _) f)) g
+refused_step {list = list} {out = out} e f g = kept e (sym (ap (said Err _) f)) g
 
 module _ {W R N : ℕ} {list : List ℕ} {v n : ℕ} (s : Passed W R N list v) (e : n ≡ 16 + 6 * (v + get_or list 0 0)) where
   size : n ≡ size_of (list_pieces list)
   size = e ∙ size_is s
 
-  pub step_2 : {a : Writing} {out out' : List ℕ} → most_bytes < n → a ≡ NotWritten (refusal 2 0) → out' ≡ out → WriteStep W R N list out a out'
+  pub step_2 : {a : Result ℕ Refusal} {out out' : List ℕ} → most_bytes < n → a ≡ Err (refusal 2 0) → out' ≡ out → WriteStep W R N list out a out'
   unfolding write_answer
   step_2 {out = out} l r g =
-      kept r (sym (passed NotWritten (no_none s) ∙ rw (lt-leb (size_of (list_pieces list)) most_bytes (omega (arith, size))))) g
+      kept r (sym (passed Err (no_none s) ∙ rw (lt-leb (size_of (list_pieces list)) most_bytes (omega (arith, size))))) g
 
-  pub step_15 : {a : Writing} {out out' : List ℕ} → n ≤ most_bytes → length out < n → a ≡ NotWritten (refusal 15 0) → out' ≡ out →
+  pub step_15 : {a : Result ℕ Refusal} {out out' : List ℕ} → n ≤ most_bytes → length out < n → a ≡ Err (refusal 15 0) → out' ≡ out →
       WriteStep W R N list out a out'
   unfolding write_answer
   step_15 {out = out} m l r g =
       kept r
-      (sym (passed NotWritten (no_none s) ∙
+      (sym (passed Err (no_none s) ∙
       rw (le-leb (size_of (list_pieces list)) most_bytes (omega (arith, size)), lt-leb (size_of (list_pieces list)) (length out) (omega (arith, size))))) g
 
   pub step_written : {out out' : List ℕ} → n ≤ most_bytes → n ≤ length out → out' ≡ sets out 0 (sheet_bytes W R N (list_pieces list)) →
-      WriteStep W R N list out (Written n) out'
+      WriteStep W R N list out (Ok n) out'
   unfolding write_output
   step_written {out} m l q =
       let b = sheet_bytes W R N (list_pieces list) in
       let long : length b ≡ n = sheet_long W R N (list_pieces list) ∙ sym size in
       record {
         answer =
-            ap Written size ∙
+            ap Ok size ∙
             sym (write_grants W R N list (length out) (no_none s) (omega (arith, size)) (omega (arith, size)));
         output = q ∙ sets-eq b out 0 (omega (arith, long)) ∙ ap (λ (k : ℕ). b ++ drop k out) (zero-add (length b) ∙ long);
       }

@@ -5,17 +5,7 @@ ghost use Rattle.std.specs.Prelude.{◌≡◌, ◌+◌, ◌*◌, ◌<◌};
 ghost use Rattle.defs.specs.Computing.Sheets.{q6_listb, WriteStep};
 ghost use Rattle.writes.specs.Steps.{Begun, Passed};
 
-use defs::{Refusal, Writing};
-use lists::No;
-
-fn refused(number: u16, ordinal: u16) -> Writing
-    ensures { result ≡ Writing.Refused (record { number = number; ordinal = ordinal }) }
-{
-    Writing::Refused(Refusal {
-        number: number,
-        ordinal: ordinal,
-    })
-}
+use defs::{Refusal, refused};
 
 // Question 6: a count word of at most 200.
 fn count_fits(list: &[u16]) -> bool
@@ -28,7 +18,7 @@ fn count_fits(list: &[u16]) -> bool
 }
 
 // Questions 2 and 15 of a list of v vertices that passes the others; then its sheet.
-fn write_sheet(w: u16, r: u16, n: u16, list: &[u16], v: usize, out: &mut [u8]) -> Writing
+fn write_sheet(w: u16, r: u16, n: u16, list: &[u16], v: usize, out: &mut [u8]) -> Result<u32, Refusal>
     requires { Passed w r n list.now v }
     ensures { WriteStep w r n list.now out.old result out.new }
 {
@@ -40,28 +30,23 @@ fn write_sheet(w: u16, r: u16, n: u16, list: &[u16], v: usize, out: &mut [u8]) -
         return refused(15, 0);
     }
     sheetbytes::put_sheet(w, r, n, list, v, out);
-    Writing::Written(size as u32)
+    Ok(size as u32)
 }
 
 // Questions 7 to 11 of a list that passes 3, 16, 17 and 6, and what follows.
-fn write_pieces(w: u16, r: u16, n: u16, list: &[u16], out: &mut [u8]) -> Writing
+fn write_pieces(w: u16, r: u16, n: u16, list: &[u16], out: &mut [u8]) -> Result<u32, Refusal>
     requires { Begun w r n list.now }
     ensures { WriteStep w r n list.now out.old result out.new }
 {
-    match lists::first_no(list) {
-        No::Pass(v) => write_sheet(w, r, n, list, v, out),
-        No::At(number, ordinal) => refused(number, ordinal),
-    }
+    let v = lists::first_no(list)?;
+    write_sheet(w, r, n, list, v, out)
 }
 
 // The write call. Nothing is written before every question is answered.
-pub fn write(w: u16, r: u16, n: u16, list: &[u16], out: &mut [u8]) -> Writing
+pub fn write(w: u16, r: u16, n: u16, list: &[u16], out: &mut [u8]) -> Result<u32, Refusal>
     ensures { WriteStep w r n list.now out.old result out.new }
 {
-    let no = limits::limits_no(w, r, n);
-    if no != 0 {
-        return refused(no, 0);
-    }
+    limits::limits(w, r, n)?;
     if !count_fits(list) {
         return refused(6, 0);
     }

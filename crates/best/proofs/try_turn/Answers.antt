@@ -1,6 +1,6 @@
 -- One turn is counted, and searched where its runs fit. Assumes nothing.
 use mathlib.Core.Path.{refl, ap}
-use Rattle.ranks.specs.declared.Choice.TheVariants.{Chosen}
+use Rattle.std.specs.Prelude.{Some}
 use Rattle.best.proofs.Turns.{too_many, stands, put_kept, frame, full_before, spot_fits, turn_tried}
 use Rattle.best.proofs.try_turn.Goals as goal
 
@@ -33,10 +33,10 @@ returns-in_default c = let pre = c.requires.fact_1 in let fits = stands c.put_tu
 }
 
 pub rank-requires : goal.rank-requires
-rank-requires c = let pre = c.requires.fact_1 in let fits = stands c.put_turn-k.ensures c.if-work-k.false in let extent = c.extent_of-e.ensures in spot_fits _ _ _ _ pre.least pre.gap pre.table fits extent.0 c.columns_for-wide.ensures extent.1 pre.width pre.columns c.search-found.ensures c.in-Found.is
+rank-requires c = let pre = c.requires.fact_1 in let fits = stands c.put_turn-k.ensures c.if-work-k.false in let extent = c.extent_of-e.ensures in spot_fits _ _ _ _ pre.least pre.gap pre.table fits extent.0 c.columns_for-wide.ensures extent.1 pre.width pre.columns c.search-found.ensures c.in-Some.is
 
 pub returns : goal.returns
 returns c = let pre = c.requires.fact_1 in let fits = stands c.put_turn-k.ensures c.if-work-k.false in let extent = c.extent_of-e.ensures in record {
-  fact_1 = turn_tried _ _ _ _ pre.least pre.gap pre.table fits extent.0 c.columns_for-wide.ensures extent.1 _ _ _ c.search-found.result c.search-found.ensures (rw c.in-Found.is (ap Chosen c.rank.ensures));
+  fact_1 = turn_tried _ _ _ _ pre.least pre.gap pre.table fits extent.0 c.columns_for-wide.ensures extent.1 _ _ _ c.search-found.result c.search-found.ensures (rw c.in-Some.is (ap Some c.rank.ensures));
   fact_2 = put_kept c.put_turn-k.ensures;
 }

@@ -10,8 +10,8 @@ slice_bounds-words-end c = part_fits _ (lesser_most _ _ c.lesser-n.ensures)
 pub slice_bounds-put_copy-end : goal.slice_bounds-put_copy-end
 slice_bounds-put_copy-end c = sym (part_long _ (lesser_most _ _ c.lesser-n.ensures))
 
-pub put_copy-x-requires : goal.put_copy-x-requires
-put_copy-x-requires c = part_is _ _ c.lesser-n.ensures
+pub put_copy-requires : goal.put_copy-requires
+put_copy-requires c = part_is _ _ c.lesser-n.ensures
 
 pub returns : goal.returns
-returns c = ask_step (λ i _. (c.type_inv.strip i).fits) c.put_copy-x.ensures c.show.ensures
+returns c = ask_step (λ i _. (c.type_inv.strip i).fits) c.put_copy.ensures

@@ -2,8 +2,8 @@
 use mathlib.Core.Path.{refl}
 use Rattle.commit.proofs.committed.Goals as goal
 
-pub returns-in-Placed : goal.returns-in-Placed
-returns-in-Placed c = rw c.in-Placed.is refl
+pub returns-in-Ok : goal.returns-in-Ok
+returns-in-Ok c = rw c.in-Ok.is refl
 
-pub returns-in-Refused : goal.returns-in-Refused
-returns-in-Refused c = rw c.in-Refused.is refl
+pub returns-in-Err : goal.returns-in-Err
+returns-in-Err c = rw c.in-Err.is refl

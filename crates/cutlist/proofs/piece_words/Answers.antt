@@ -6,16 +6,16 @@ use Rattle.cutlist.proofs.Words.{ends_few, not_broken, piece_counted}
 use Rattle.cutlist.proofs.piece_words.Goals as goal
 
 pub overflow_mul-result : goal.overflow_mul-result
-overflow_mul-result c = let g = rw c.in-Whole.is at c.follow.ensures in omega (arith, ends_few g)
+overflow_mul-result c = let g = rw c.in-Some.is at c.follow.ensures in omega (arith, ends_few g)
 
 pub overflow_add-result : goal.overflow_add-result
-overflow_add-result c = let g = rw c.in-Whole.is at c.follow.ensures in omega (arith, ends_few g)
+overflow_add-result c = let g = rw c.in-Some.is at c.follow.ensures in omega (arith, ends_few g)
 
-pub returns-in-Whole : goal.returns-in-Whole
-returns-in-Whole c =
+pub returns-in-Some : goal.returns-in-Some
+returns-in-Some c =
     piece_counted _ _ c.requires.fact_1 (ap (λ (n : Numbers). n.first) c.visit-piece.ensures) c.requires.fact_2
-    (rw c.in-Whole.is at c.follow.ensures)
+    (rw c.in-Some.is at c.follow.ensures)
 
-pub returns-in-Broken : goal.returns-in-Broken
-returns-in-Broken c =
-    absurd (not_broken _ _ c.requires.fact_1 (ap (λ (n : Numbers). n.first) c.visit-piece.ensures) c.requires.fact_2 (rw c.in-Broken.is at c.follow.ensures))
+pub returns-in-None : goal.returns-in-None
+returns-in-None c =
+    absurd (not_broken _ _ c.requires.fact_1 (ap (λ (n : Numbers). n.first) c.visit-piece.ensures) c.requires.fact_2 (rw c.in-None.is at c.follow.ensures))

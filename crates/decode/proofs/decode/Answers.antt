@@ -4,10 +4,10 @@ use Rattle.decode.proofs.decode.Goals as goal
 
 pub take_all-requires : goal.take_all-requires
 take_all-requires c = record {
-  fact_1 = rw c.in-Kept.is at
+  fact_1 = rw c.in-Some.is at
       c.measure.ensures;
   fact_2 = search rules;
 }
 
-pub returns-in-Ill : goal.returns-in-Ill
-returns-in-Ill c = rw c.in-Ill.is at c.measure.ensures
+pub returns-in-None : goal.returns-in-None
+returns-in-None c = rw c.in-None.is at c.measure.ensures

@@ -29,19 +29,19 @@ take_runs-requires c = let a = c.loop-c.invariant.0 in
 pub overflow_add-t : goal.overflow_add-t
 overflow_add-t c =
     let a = c.loop-c.invariant.0 in
-    let d = rw c.in-Whole.is at c.take_runs.ensures in
+    let d = rw c.in-Some.is at c.take_runs.ensures in
     omega (arith, on_fits a.on _ d.chain)
 
 pub overflow_cast-first : goal.overflow_cast-first
 overflow_cast-first c =
     let a = c.loop-c.invariant.0 in
-    let d = rw c.in-Whole.is at c.take_runs.ensures in
+    let d = rw c.in-Some.is at c.take_runs.ensures in
     omega (arith, on_fits a.on _ d.chain)
 
 pub loop-c-preserved : goal.loop-c-preserved
 loop-c-preserved c =
     let i = c.loop-c.invariant in
-    let d = rw c.in-Whole.is at c.take_runs.ensures in (
+    let d = rw c.in-Some.is at c.take_runs.ensures in (
       tabs_next i.0 (omega arith) (omega arith) d,
       simp length-set (simp length-set at i.1),
       search rules,
@@ -49,14 +49,14 @@ loop-c-preserved c =
       simp length-set i.4,
     )
 
-pub shape_of-first-in-Broken : goal.shape_of-first-in-Broken
-shape_of-first-in-Broken c =
+pub shape_of-first-in-None : goal.shape_of-first-in-None
+shape_of-first-in-None c =
     c.loop-c.invariant.1 ∙ simp
     length-set
 
-pub returns-in-Broken : goal.returns-in-Broken
-returns-in-Broken c =
-    let d = rw c.in-Broken.is at c.take_runs.ensures in
+pub returns-in-None : goal.returns-in-None
+returns-in-None c =
+    let d = rw c.in-None.is at c.take_runs.ensures in
     broken
     c.loop-c.invariant.0.on.sized
     (omega arith) d
@@ -64,9 +64,9 @@ returns-in-Broken c =
 pub free_chain-requires : goal.free_chain-requires
 free_chain-requires c = c.loop-c.invariant.0.on.sized
 
-pub overflow_add-t-in-Whole-free_chain : goal.overflow_add-t-in-Whole-free_chain
-overflow_add-t-in-Whole-free_chain c =
-    let d = rw c.in-Whole-free_chain.is at c.free_chain.ensures in
+pub overflow_add-t-in-Some-free_chain : goal.overflow_add-t-in-Some-free_chain
+overflow_add-t-in-Some-free_chain c =
+    let d = rw c.in-Some-free_chain.is at c.free_chain.ensures in
     omega (arith, end_fits c.loop-c.invariant.0.on (omega arith) d)
 
 pub shape_of-first-then-t-k : goal.shape_of-first-then-t-k
@@ -74,7 +74,7 @@ shape_of-first-then-t-k c = c.loop-c.invariant.1 ∙ simp length-set
 
 pub returns-then-t-k : goal.returns-then-t-k
 returns-then-t-k c =
-    let d = rw c.in-Whole-free_chain.is at c.free_chain.ensures in
+    let d = rw c.in-Some-free_chain.is at c.free_chain.ensures in
     tabs_end c.loop-c.invariant.0 (omega arith) d
     c.if-t-k.true (omega arith) (omega arith) (omega arith)
 
@@ -83,14 +83,14 @@ shape_of-first-else-t-k c = c.loop-c.invariant.1 ∙ simp length-set
 
 pub returns-else-t-k : goal.returns-else-t-k
 returns-else-t-k c =
-    let d = rw c.in-Whole-free_chain.is at c.free_chain.ensures in
+    let d = rw c.in-Some-free_chain.is at c.free_chain.ensures in
     tabs_short c.loop-c.invariant.0 (omega arith) d
     c.if-t-k.false
 
-pub shape_of-first-in-Broken-free_chain : goal.shape_of-first-in-Broken-free_chain
-shape_of-first-in-Broken-free_chain c = c.loop-c.invariant.1 ∙ simp length-set
+pub shape_of-first-in-None-free_chain : goal.shape_of-first-in-None-free_chain
+shape_of-first-in-None-free_chain c = c.loop-c.invariant.1 ∙ simp length-set
 
-pub returns-in-Broken-free_chain : goal.returns-in-Broken-free_chain
-returns-in-Broken-free_chain c =
-    let d = rw c.in-Broken-free_chain.is at c.free_chain.ensures in
+pub returns-in-None-free_chain : goal.returns-in-None-free_chain
+returns-in-None-free_chain c =
+    let d = rw c.in-None-free_chain.is at c.free_chain.ensures in
     broken c.loop-c.invariant.0.on.sized (omega arith) d

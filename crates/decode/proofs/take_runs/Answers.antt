@@ -22,44 +22,44 @@ returns-then-g-t c =
 
 pub word_of-requires : goal.word_of-requires
 word_of-requires c =
-    let x = rw c.in-High.is at c.check_run.ensures in
+    let x = rw c.in-Some.is at c.check_run.ensures in
     search rules
 
 pub overflow_cast-highs : goal.overflow_cast-highs
 overflow_cast-highs c =
-    let x = rw c.in-High.is at c.check_run.ensures in
+    let x = rw c.in-Some.is at c.check_run.ensures in
     omega arith
 
 pub overflow_add-m : goal.overflow_add-m
 overflow_add-m c =
-    let x = rw c.in-High.is at c.check_run.ensures in
+    let x = rw c.in-Some.is at c.check_run.ensures in
     omega arith
 
 pub word_of-at-requires : goal.word_of-at-requires
 word_of-at-requires c =
-    let x = rw c.in-High.is at c.check_run.ensures in
+    let x = rw c.in-Some.is at c.check_run.ensures in
     search rules
 
 pub loop-at-smaller : goal.loop-at-smaller
 loop-at-smaller c =
-    let x = rw c.in-High.is at c.check_run.ensures in
+    let x = rw c.in-Some.is at c.check_run.ensures in
     omega arith
 
 pub loop-at-preserved : goal.loop-at-preserved
 loop-at-preserved c =
-    let x = rw c.in-High.is at c.check_run.ensures in
+    let x = rw c.in-Some.is at c.check_run.ensures in
     taking_next c.loop-at.invariant (omega arith)
     (omega arith) (omega arith) (omega arith) x c.word_of.ensures.fact_1 c.word_of-at.ensures.fact_1
 
-pub shape_of-lows-in-Wrong : goal.shape_of-lows-in-Wrong
-shape_of-lows-in-Wrong c = c.loop-at.invariant.copied.lows
+pub shape_of-lows-in-None : goal.shape_of-lows-in-None
+shape_of-lows-in-None c = c.loop-at.invariant.copied.lows
 
-pub shape_of-highs-in-Wrong : goal.shape_of-highs-in-Wrong
-shape_of-highs-in-Wrong c = c.loop-at.invariant.copied.highs
+pub shape_of-highs-in-None : goal.shape_of-highs-in-None
+shape_of-highs-in-None c = c.loop-at.invariant.copied.highs
 
-pub returns-in-Wrong : goal.returns-in-Wrong
-returns-in-Wrong c =
-    let x = rw c.in-Wrong.is at c.check_run.ensures in
+pub returns-in-None : goal.returns-in-None
+returns-in-None c =
+    let x = rw c.in-None.is at c.check_run.ensures in
     column_wrong c.loop-at.invariant.on (omega arith) (omega arith) x
 
 pub shape_of-lows : goal.shape_of-lows

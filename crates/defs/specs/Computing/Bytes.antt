@@ -1,12 +1,9 @@
 -- "There a buffer may be passed as bytes, two to a word, low byte first; an odd last byte is no part of it and stays."
 -- Assumes nothing.
-use Rattle.std.specs.Prelude.{◌≡◌, List, [], ◌∷◌, ◌++◌, ℕ, ◌+◌, ◌*◌, take}
+use Rattle.std.specs.Prelude.{◌≡◌, List, [], ◌∷◌, ◌++◌, ℕ, ◌+◌, ◌*◌, take, Result}
+use Rattle.defs.specs.declared.Refusal.{Refusal}
+use Rattle.defs.specs.declared.Totals.{Totals}
 use Rattle.defs.specs.declared.Position.{Position}
-use Rattle.defs.specs.declared.Opening.{Opening}
-use Rattle.defs.specs.declared.Placing.{Placing}
-use Rattle.defs.specs.declared.Asking.{Asking}
-use Rattle.defs.specs.declared.Committing.{Committing}
-use Rattle.defs.specs.declared.Laying.{Laying}
 use Rattle.defs.specs.Computing.Calls.{cleared, OpenStep, PlaceStep, AskStep, CommitStep}
 use Rattle.defs.specs.Computing.Sheets.{bytes_of}
 use Rattle.defs.specs.Computing.Lay.{LayStep}
@@ -42,7 +39,7 @@ work_in bs = take most_work (words_in bs)
 -- The contracts of the calls on buffers passed as bytes: the same steps on the words of the buffers, and each buffer left with its
 -- words. A sheet is bytes in any case.
 
-pub record OpenBytesStep (W R N g : ℕ) (strip : List ℕ) (a : Opening) (strip' : List ℕ) : Type 0 where
+pub record OpenBytesStep (W R N g : ℕ) (strip : List ℕ) (a : Result Unit Refusal) (strip' : List ℕ) : Type 0 where
   pub words : List ℕ
   pub step : OpenStep W R N g (words_in strip) a words
   pub strip_left : strip' ≡ bytes_left strip words
@@ -54,18 +51,18 @@ pub record OnBytes (Step : List ℕ → List ℕ → List ℕ → List ℕ → L
   pub strip_left : strip' ≡ bytes_left strip words
   pub work_left : work' ≡ bytes_left work (cleared (words_in work))
 
-abbrev pub PlaceBytesStep : List ℕ → List ℕ → ℕ → List ℕ → Placing → ℕ → List ℕ → List ℕ → Type 0
+abbrev pub PlaceBytesStep : List ℕ → List ℕ → ℕ → List ℕ → Result Position Refusal → ℕ → List ℕ → List ℕ → Type 0
 PlaceBytesStep strip o mask work a tries strip' work' =
     OnBytes (λ s v w s' w'. PlaceStep s v mask w a tries s' w') strip o work strip' work'
 
-abbrev pub AskBytesStep : List ℕ → List ℕ → ℕ → List ℕ → Asking → ℕ → List ℕ → List ℕ → Type 0
+abbrev pub AskBytesStep : List ℕ → List ℕ → ℕ → List ℕ → Result Position Refusal → ℕ → List ℕ → List ℕ → Type 0
 AskBytesStep strip o mask work a tries strip' work' =
     OnBytes (λ s v w s' w'. AskStep s v mask w a tries s' w') strip o work strip' work'
 
-abbrev pub CommitBytesStep : List ℕ → List ℕ → Position → List ℕ → Committing → List ℕ → List ℕ → Type 0
+abbrev pub CommitBytesStep : List ℕ → List ℕ → Position → List ℕ → Result Unit Refusal → List ℕ → List ℕ → Type 0
 CommitBytesStep strip o p work a strip' work' = OnBytes (λ s v w s' w'. CommitStep s v p w a s' w') strip o work strip' work'
 
-pub record LayBytesStep (sheet : List ℕ) (g : ℕ) (strip out work : List ℕ) (a : Laying) (strip' out' work' : List ℕ) : Type 0 where
+pub record LayBytesStep (sheet : List ℕ) (g : ℕ) (strip out work : List ℕ) (a : Result Totals Refusal) (strip' out' work' : List ℕ) : Type 0 where
   pub words : List ℕ
   pub out_words : List ℕ
   pub step : LayStep sheet g (words_in strip) (words_in out) (work_in work) a words out_words (cleared (work_in work))

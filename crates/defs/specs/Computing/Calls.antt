@@ -1,18 +1,7 @@
 -- What cover, open, place, ask and commit answer, and what they leave in each lent buffer. Assumes nothing.
-use Rattle.std.specs.Prelude.{◌≡◌, Bool, true, ◌&&◌, List, [], ◌∷◌, ◌++◌, ℕ, ◌+◌, ◌*◌, ◌%◌, ◌^◌, ◌<◌, ltb, leb, eqb, length, get_or, drop, replicate}
-use Rattle.std.proofs.Math.Option.{Option, none, some}
+use Rattle.std.specs.Prelude.{◌≡◌, Bool, true, ◌&&◌, List, [], ◌∷◌, ◌++◌, ℕ, zero, suc, ◌+◌, ◌*◌, ◌%◌, ◌^◌, ◌<◌, ltb, leb, eqb, length, get_or, drop, replicate, Option, Some, None, Result, Ok, Err}
 use Rattle.defs.specs.declared.Position.{Position}
 use Rattle.defs.specs.declared.Refusal.{Refusal}
-use Rattle.defs.specs.declared.Opening.{Opening}
-use Rattle.defs.specs.declared.Opening.TheVariants.{Opened, Refused as NotOpened}
-use Rattle.defs.specs.declared.Covering.{Covering}
-use Rattle.defs.specs.declared.Covering.TheVariants.{Runs, Refused as NotCovered}
-use Rattle.defs.specs.declared.Placing.{Placing}
-use Rattle.defs.specs.declared.Placing.TheVariants.{Placed, Refused as NotPlaced}
-use Rattle.defs.specs.declared.Asking.{Asking}
-use Rattle.defs.specs.declared.Asking.TheVariants.{Found, Refused as NotFound}
-use Rattle.defs.specs.declared.Committing.{Committing}
-use Rattle.defs.specs.declared.Committing.TheVariants.{Committed, Refused as NotCommitted}
 use Rattle.defs.specs.Meaning.Limits.{most_coordinate, most_mask, most_turn, leading_words, record_words}
 use Rattle.defs.specs.Meaning.Strip.{width_of, resolution_of, columns_of, gap_of}
 use Rattle.defs.specs.Meaning.Placing.{end_column, top}
@@ -24,6 +13,11 @@ use Rattle.defs.specs.Computing.Walk.{tries_below}
 
 abbrev pub refusal : ℕ → ℕ → Refusal
 refusal n k = record { number = n; ordinal = k }
+
+-- what a call answers by the first "no" of its questions, 0 for none
+abbrev pub passing : ℕ → Result Unit Refusal
+passing zero = Ok tt
+passing (suc k) = Err (refusal (suc k) 0)
 
 -- The questions as tests. The mask of a cover or commit call with turn t is 2 ^ t.
 
@@ -62,54 +56,50 @@ outline_no o ninth mask R =
 
 -- open
 
-unfoldable pub open_answer : ℕ → ℕ → ℕ → ℕ → ℕ → Opening
+unfoldable pub open_answer : ℕ → ℕ → ℕ → ℕ → ℕ → Result Unit Refusal
 open_answer W R N g words =
     let no = figures_no W R N g in
-    ask (eqb no 0) (NotOpened (refusal no 0)) λ _.
-    ask (lengthb N words) (NotOpened (refusal 4 0)) λ _.
-    Opened
+    ask (eqb no 0) (Err (refusal no 0)) λ _.
+    ask (lengthb N words) (Err (refusal 4 0)) λ _.
+    (Ok tt)
 
 -- cover
 
-unfoldable pub cover_answer : List ℕ → ℕ → ℕ → ℕ → ℕ → Covering
+unfoldable pub cover_answer : List ℕ → ℕ → ℕ → ℕ → ℕ → Result ℕ Refusal
 cover_answer o t R g words =
-    ask (resolutionb R) (NotCovered (refusal 16 0)) λ _.
-    ask (gapb g) (NotCovered (refusal 21 0)) λ _.
+    ask (resolutionb R) (Err (refusal 16 0)) λ _.
+    ask (gapb g) (Err (refusal 21 0)) λ _.
     let no = outline_no o (leb t most_turn) (2 ^ t) R in
-    ask (eqb no 0) (NotCovered (refusal no 1)) λ _.
-    ask (q12b o (2 ^ t) R g words) (NotCovered (refusal 12 1)) λ _.
-    Runs (count_runs (piece_runs o t R g))
+    ask (eqb no 0) (Err (refusal no 1)) λ _.
+    ask (q12b o (2 ^ t) R g words) (Err (refusal 12 1)) λ _.
+    Ok (count_runs (piece_runs o t R g))
 
 -- place
 
 -- 13 and 14, for the best position or none
-unfoldable pub choose : ℕ → ℕ → ℕ → ℕ → List (List Rows) → List ℕ → Option Position → Placing
-choose W R g Q held o none = NotPlaced (refusal 13 1)
-choose W R g Q held o (some p) =
-    ask (q14b W R g Q held o p) (NotPlaced (refusal 14 1)) λ _.
-    Placed p
+unfoldable pub choose : ℕ → ℕ → ℕ → ℕ → List (List Rows) → List ℕ → Option Position → Result Position Refusal
+choose W R g Q held o None = Err (refusal 13 1)
+choose W R g Q held o (Some p) =
+    ask (q14b W R g Q held o p) (Err (refusal 14 1)) λ _.
+    Ok p
 
 -- on a strip that holds these runs, column by column
-unfoldable pub place_on : ℕ → ℕ → ℕ → ℕ → ℕ → List (List Rows) → List ℕ → ℕ → ℕ → Placing
+unfoldable pub place_on : ℕ → ℕ → ℕ → ℕ → ℕ → List (List Rows) → List ℕ → ℕ → ℕ → Result Position Refusal
 place_on W R N g Q held o mask words =
     let no = outline_no o (q9b mask) mask R in
-    ask (eqb no 0) (NotPlaced (refusal no 1)) λ _.
-    ask (q12b o mask R g words) (NotPlaced (refusal 12 1)) λ _.
+    ask (eqb no 0) (Err (refusal no 1)) λ _.
+    ask (q12b o mask R g words) (Err (refusal 12 1)) λ _.
     choose W R g Q held o (best_below W R N g held o mask 4)
 
-unfoldable pub place_answer : List ℕ → List ℕ → ℕ → ℕ → Placing
+unfoldable pub place_answer : List ℕ → List ℕ → ℕ → ℕ → Result Position Refusal
 place_answer s o mask words =
-    ask (well_formedb s) (NotPlaced (refusal 5 0)) λ _.
+    ask (well_formedb s) (Err (refusal 5 0)) λ _.
     place_on (width_of s) (resolution_of s) (columns_of s) (gap_of s) (records_of (columns_of s) (length s)) (columns_runs s) o mask words
 
 -- ask: "the position that place would give, or its number"
 
-abbrev pub shown : Placing → Asking
-shown (Placed p) = Found p
-shown (NotPlaced r) = NotFound r
-
-unfoldable pub ask_answer : List ℕ → List ℕ → ℕ → ℕ → Asking
-ask_answer s o mask words = shown (place_answer s o mask words)
+unfoldable pub ask_answer : List ℕ → List ℕ → ℕ → ℕ → Result Position Refusal
+ask_answer s o mask words = place_answer s o mask words
 
 -- S-5: "Ask and place report the tries made over all allowed turns, …, 0 where a check before 13 refuses."
 
@@ -127,18 +117,18 @@ place_tries s o mask words =
 -- commit: "asks what place asks with that turn alone allowed", 18 "instead of 13"
 
 -- on a strip that holds these runs, column by column
-unfoldable pub commit_on : ℕ → ℕ → ℕ → ℕ → ℕ → List (List Rows) → List ℕ → Position → ℕ → Committing
+unfoldable pub commit_on : ℕ → ℕ → ℕ → ℕ → ℕ → List (List Rows) → List ℕ → Position → ℕ → Result Unit Refusal
 commit_on W R N g Q held o p words =
     let no = outline_no o (leb p.turn most_turn) (2 ^ p.turn) R in
-    ask (eqb no 0) (NotCommitted (refusal no 1)) λ _.
-    ask (q12b o (2 ^ p.turn) R g words) (NotCommitted (refusal 12 1)) λ _.
-    ask (q18b W R N g held o p) (NotCommitted (refusal 18 0)) λ _.
-    ask (q14b W R g Q held o p) (NotCommitted (refusal 14 1)) λ _.
-    Committed
+    ask (eqb no 0) (Err (refusal no 1)) λ _.
+    ask (q12b o (2 ^ p.turn) R g words) (Err (refusal 12 1)) λ _.
+    ask (q18b W R N g held o p) (Err (refusal 18 0)) λ _.
+    ask (q14b W R g Q held o p) (Err (refusal 14 1)) λ _.
+    (Ok tt)
 
-unfoldable pub commit_answer : List ℕ → List ℕ → Position → ℕ → Committing
+unfoldable pub commit_answer : List ℕ → List ℕ → Position → ℕ → Result Unit Refusal
 commit_answer s o p words =
-    ask (well_formedb s) (NotCommitted (refusal 5 0)) λ _.
+    ask (well_formedb s) (Err (refusal 5 0)) λ _.
     commit_on (width_of s) (resolution_of s) (columns_of s) (gap_of s) (records_of (columns_of s) (length s)) (columns_runs s) o p words
 
 -- What is left in the buffers.
@@ -152,9 +142,9 @@ unfoldable pub runs_words : ℕ → List (List Rows) → List ℕ
 runs_words i [] = []
 runs_words i (c ∷ cs) = rows_words i c ++ runs_words (i + 1) cs
 
-unfoldable pub cover_output : List ℕ → ℕ → ℕ → ℕ → List ℕ → Covering → List ℕ
-cover_output o t R g out (Runs n) = runs_words 0 (piece_runs o t R g) ++ drop (3 * n) out
-cover_output o t R g out (NotCovered r) = out
+unfoldable pub cover_output : List ℕ → ℕ → ℕ → ℕ → List ℕ → Result ℕ Refusal → List ℕ
+cover_output o t R g out (Ok n) = runs_words 0 (piece_runs o t R g) ++ drop (3 * n) out
+cover_output o t R g out (Err r) = out
 
 -- "A work buffer is zero after each call."
 abbrev pub cleared : List ℕ → List ℕ
@@ -172,9 +162,9 @@ pub record Left (W R N g words : ℕ) (runs : ℕ → List Rows) (s : List ℕ) 
   pub holds : (k : ℕ) → k < N → runs_of s k ≡ runs k
 
 -- "Opening makes all columns empty."
-unfoldable pub OpenLeaves : ℕ → ℕ → ℕ → ℕ → List ℕ → Opening → List ℕ → Type 0
-OpenLeaves W R N g s Opened s' = Left W R N g (length s) (λ k. []) s'
-OpenLeaves W R N g s (NotOpened r) s' = s' ≡ s
+unfoldable pub OpenLeaves : ℕ → ℕ → ℕ → ℕ → List ℕ → Result Unit Refusal → List ℕ → Type 0
+OpenLeaves W R N g s (Ok tt) s' = Left W R N g (length s) (λ k. []) s'
+OpenLeaves W R N g s (Err r) s' = s' ≡ s
 
 -- "the piece's cells are added, touching runs joined": the strip with the outline entered at p.
 abbrev pub EnteredLeaves : List ℕ → List ℕ → Position → List ℕ → Type 0
@@ -183,37 +173,37 @@ EnteredLeaves s o p s' =
     (λ k. get_or (entered (width_of s) (resolution_of s) (gap_of s) (columns_runs s) o p) k []) s'
 
 -- "Strip and output keep their words at a refusal."
-unfoldable pub PlaceLeaves : List ℕ → List ℕ → Placing → List ℕ → Type 0
-PlaceLeaves s o (Placed p) s' = EnteredLeaves s o p s'
-PlaceLeaves s o (NotPlaced r) s' = s' ≡ s
+unfoldable pub PlaceLeaves : List ℕ → List ℕ → Result Position Refusal → List ℕ → Type 0
+PlaceLeaves s o (Ok p) s' = EnteredLeaves s o p s'
+PlaceLeaves s o (Err r) s' = s' ≡ s
 
-unfoldable pub CommitLeaves : List ℕ → List ℕ → Position → Committing → List ℕ → Type 0
-CommitLeaves s o p Committed s' = EnteredLeaves s o p s'
-CommitLeaves s o p (NotCommitted r) s' = s' ≡ s
+unfoldable pub CommitLeaves : List ℕ → List ℕ → Position → Result Unit Refusal → List ℕ → Type 0
+CommitLeaves s o p (Ok tt) s' = EnteredLeaves s o p s'
+CommitLeaves s o p (Err r) s' = s' ≡ s
 
 -- One strip among them, for a table that goes on from call to call.
 unfoldable pub opened_strip : ℕ → ℕ → ℕ → ℕ → ℕ → List ℕ
 opened_strip W R N g words = written W R N g (records_of N words) (replicate N [])
 
-unfoldable pub placed_strip : List ℕ → List ℕ → Placing → List ℕ
-placed_strip s o (Placed p) =
+unfoldable pub placed_strip : List ℕ → List ℕ → Result Position Refusal → List ℕ
+placed_strip s o (Ok p) =
     written (width_of s) (resolution_of s) (columns_of s) (gap_of s) (records_of (columns_of s) (length s))
     (entered (width_of s) (resolution_of s) (gap_of s) (columns_runs s) o p)
-placed_strip s o (NotPlaced r) = s
+placed_strip s o (Err r) = s
 
 pub record Lent : Type 0 where
   pub outline : List ℕ
   pub mask : ℕ
   pub words : ℕ
 
-unfoldable pub place_all : List ℕ → List Lent → List Placing
+unfoldable pub place_all : List ℕ → List Lent → List (Result Position Refusal)
 place_all s [] = []
 place_all s (c ∷ cs) =
     let a = place_answer s c.outline c.mask c.words in
     a ∷ place_all (placed_strip s c.outline a) cs
 
 -- The answers of a list of place calls on a strip opened with W, R, N, g and Q.
-unfoldable pub list_answers : ℕ → ℕ → ℕ → ℕ → ℕ → List Lent → List Placing
+unfoldable pub list_answers : ℕ → ℕ → ℕ → ℕ → ℕ → List Lent → List (Result Position Refusal)
 list_answers W R N g Q cs = place_all (opened_strip W R N g (leading_words + N + record_words * Q)) cs
 
 -- The tries of such a list.
@@ -228,23 +218,23 @@ list_tries W R N g Q cs = tries_all (opened_strip W R N g (leading_words + N + r
 
 -- The contracts of the calls.
 
-pub record OpenStep (W R N g : ℕ) (s : List ℕ) (a : Opening) (s' : List ℕ) : Type 0 where
+pub record OpenStep (W R N g : ℕ) (s : List ℕ) (a : Result Unit Refusal) (s' : List ℕ) : Type 0 where
   pub answer : a ≡ open_answer W R N g (length s)
   pub strip : OpenLeaves W R N g s a s'
 
-pub record CoverStep (o : List ℕ) (t R g : ℕ) (out : List ℕ) (a : Covering) (out' : List ℕ) : Type 0 where
+pub record CoverStep (o : List ℕ) (t R g : ℕ) (out : List ℕ) (a : Result ℕ Refusal) (out' : List ℕ) : Type 0 where
   pub answer : a ≡ cover_answer o t R g (length out)
   pub output : out' ≡ cover_output o t R g out a
 
 -- S-2: "Place stays as ask and commit together", which is `Place_is_ask_and_commit` of claims/specs/Asking.
-pub record PlaceStep (s o : List ℕ) (mask : ℕ) (work : List ℕ) (a : Placing) (tries : ℕ) (s' work' : List ℕ) : Type 0 where
+pub record PlaceStep (s o : List ℕ) (mask : ℕ) (work : List ℕ) (a : Result Position Refusal) (tries : ℕ) (s' work' : List ℕ) : Type 0 where
   pub answer : a ≡ place_answer s o mask (length work)
   pub counted : tries ≡ place_tries s o mask (length work)
   pub strip : PlaceLeaves s o a s'
   pub zeros : work' ≡ cleared work
 
 -- "Ask answers the position that place would give, or its number, and changes no strip word."
-pub record AskStep (s o : List ℕ) (mask : ℕ) (work : List ℕ) (a : Asking) (tries : ℕ) (s' work' : List ℕ) : Type 0 where
+pub record AskStep (s o : List ℕ) (mask : ℕ) (work : List ℕ) (a : Result Position Refusal) (tries : ℕ) (s' work' : List ℕ) : Type 0 where
   pub answer : a ≡ ask_answer s o mask (length work)
   pub counted : tries ≡ place_tries s o mask (length work)
   pub strip : s' ≡ s
@@ -252,7 +242,7 @@ pub record AskStep (s o : List ℕ) (mask : ℕ) (work : List ℕ) (a : Asking) 
 
 -- "Commit takes strip, outline, turn, column, height and a work buffer, asks what place asks with that turn alone allowed, and
 -- enters the cells if that position is on the strip and free."
-pub record CommitStep (s o : List ℕ) (p : Position) (work : List ℕ) (a : Committing) (s' work' : List ℕ) : Type 0 where
+pub record CommitStep (s o : List ℕ) (p : Position) (work : List ℕ) (a : Result Unit Refusal) (s' work' : List ℕ) : Type 0 where
   pub answer : a ≡ commit_answer s o p (length work)
   pub strip : CommitLeaves s o p a s'
   pub zeros : work' ≡ cleared work

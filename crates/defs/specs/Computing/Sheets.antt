@@ -1,12 +1,7 @@
 -- What read and write answer, and what they leave in each lent buffer. Assumes nothing.
-use Rattle.std.specs.Prelude.{◌≡◌, Bool, true, cond, ◌&&◌, List, [], ◌∷◌, ◌++◌, map, ℕ, zero, suc, ◌+◌, ◌*◌, ◌/◌, ◌%◌, min, leb, eqb, length, get_or, drop}
-use Rattle.std.proofs.Math.Option.{Option, none, some}
+use Rattle.std.specs.Prelude.{◌≡◌, Bool, true, cond, ◌&&◌, List, [], ◌∷◌, ◌++◌, map, ℕ, zero, suc, ◌+◌, ◌*◌, ◌/◌, ◌%◌, min, leb, eqb, length, get_or, drop, Option, Some, None, Result, Ok, Err}
 use Rattle.defs.specs.declared.Refusal.{Refusal}
 use Rattle.defs.specs.declared.Figures.{Figures}
-use Rattle.defs.specs.declared.Reading.{Reading}
-use Rattle.defs.specs.declared.Reading.TheVariants.{Read, Refused as NotRead}
-use Rattle.defs.specs.declared.Writing.{Writing}
-use Rattle.defs.specs.declared.Writing.TheVariants.{Written, Refused as NotWritten}
 use Rattle.defs.specs.Meaning.Limits.{least_vertices, most_vertices, most_pieces, most_bytes}
 use Rattle.defs.specs.Meaning.Sheet.{Piece, mark, sheet_w, sheet_r, sheet_n, sheet_v, sheet_p, first_piece, vertex_number, piece_number, vertex_words, list_words, list_piece, after_piece}
 use Rattle.defs.specs.Computing.Test.{ask, chain_by, ends_by}
@@ -45,22 +40,22 @@ sheet_piece_no b r =
 
 -- "7 to 11 piece by piece": the first piece with a "no", its place counted from k
 unfoldable pub first_no {ℓ} : {A : Type ℓ} → (A → ℕ) → ℕ → List A → Option Refusal
-first_no f k [] = none
+first_no f k [] = None
 first_no f k (x ∷ xs) =
     let r = first_no f (k + 1) xs in
     let n = f x in
-    cond (eqb n 0) r (some (refusal n k))
+    cond (eqb n 0) r (Some (refusal n k))
 
 -- the first of 1 to 3, 16, 17, 6 to 11 that gets "no"; 21 and 4 stand before 6 where a gap is given and a strip lent
 unfoldable pub sheet_no : List ℕ → Bool → Bool → Option Refusal
 sheet_no b gap fourth =
-    ask (q1b b) (some (refusal 1 0)) λ _.
-    ask (q2b b) (some (refusal 2 0)) λ _.
+    ask (q1b b) (Some (refusal 1 0)) λ _.
+    ask (q2b b) (Some (refusal 2 0)) λ _.
     let no = limits_no (sheet_w b) (sheet_r b) (sheet_n b) in
-    ask (eqb no 0) (some (refusal no 0)) λ _.
-    ask gap (some (refusal 21 0)) λ _.
-    ask fourth (some (refusal 4 0)) λ _.
-    ask (q6b b) (some (refusal 6 0)) λ _.
+    ask (eqb no 0) (Some (refusal no 0)) λ _.
+    ask gap (Some (refusal 21 0)) λ _.
+    ask fourth (Some (refusal 4 0)) λ _.
+    ask (q6b b) (Some (refusal 6 0)) λ _.
     first_no (sheet_piece_no b) 1 (piece_records b)
 
 unfoldable pub sheet_pieces : List ℕ → List Piece
@@ -71,18 +66,18 @@ sheet_pieces b = map (piece_of b) (piece_records b)
 abbrev figures : List ℕ → Figures
 figures b = record { width = sheet_w b; resolution = sheet_r b; columns = sheet_n b }
 
-unfoldable pub read_answer : List ℕ → ℕ → Reading
+unfoldable pub read_answer : List ℕ → ℕ → Result Figures Refusal
 read_answer b words =
     elim (sheet_no b true true) [
-      | some r ↦ NotRead r
-      | none ↦
-          ask (leb (length (list_words (sheet_pieces b))) words) (NotRead (refusal 15 0)) λ _.
-          Read (figures b)
+      | Some r ↦ Err r
+      | None ↦
+          ask (leb (length (list_words (sheet_pieces b))) words) (Err (refusal 15 0)) λ _.
+          Ok (figures b)
     ]
 
-unfoldable pub read_output : List ℕ → List ℕ → Reading → List ℕ
-read_output b out (Read f) = let ws = list_words (sheet_pieces b) in ws ++ drop (length ws) out
-read_output b out (NotRead r) = out
+unfoldable pub read_output : List ℕ → List ℕ → Result Figures Refusal → List ℕ
+read_output b out (Ok f) = let ws = list_words (sheet_pieces b) in ws ++ drop (length ws) out
+read_output b out (Err r) = out
 
 -- write
 
@@ -152,31 +147,31 @@ q6_listb ws = leb 1 (length ws) && leb (get_or ws 0 0) most_pieces
 unfoldable pub list_no : ℕ → ℕ → ℕ → List ℕ → Option Refusal
 list_no W R N ws =
     let no = limits_no W R N in
-    ask (eqb no 0) (some (refusal no 0)) λ _.
-    ask (q6_listb ws) (some (refusal 6 0)) λ _.
+    ask (eqb no 0) (Some (refusal no 0)) λ _.
+    ask (q6_listb ws) (Some (refusal 6 0)) λ _.
     first_no (list_piece_no R) 1 (list_tails (get_or ws 0 0) (drop 1 ws))
 
-unfoldable pub write_answer : ℕ → ℕ → ℕ → List ℕ → ℕ → Writing
+unfoldable pub write_answer : ℕ → ℕ → ℕ → List ℕ → ℕ → Result ℕ Refusal
 write_answer W R N ws bytes =
     elim (list_no W R N ws) [
-      | some r ↦ NotWritten r
-      | none ↦
+      | Some r ↦ Err r
+      | None ↦
           let size = size_of (list_pieces ws) in
-          ask (leb size most_bytes) (NotWritten (refusal 2 0)) λ _.
-          ask (leb size bytes) (NotWritten (refusal 15 0)) λ _.
-          Written size
+          ask (leb size most_bytes) (Err (refusal 2 0)) λ _.
+          ask (leb size bytes) (Err (refusal 15 0)) λ _.
+          Ok size
     ]
 
-unfoldable pub write_output : ℕ → ℕ → ℕ → List ℕ → List ℕ → Writing → List ℕ
-write_output W R N ws out (Written n) = sheet_bytes W R N (list_pieces ws) ++ drop n out
-write_output W R N ws out (NotWritten r) = out
+unfoldable pub write_output : ℕ → ℕ → ℕ → List ℕ → List ℕ → Result ℕ Refusal → List ℕ
+write_output W R N ws out (Ok n) = sheet_bytes W R N (list_pieces ws) ++ drop n out
+write_output W R N ws out (Err r) = out
 
 -- The contracts of the calls.
 
-pub record ReadStep (b out : List ℕ) (a : Reading) (out' : List ℕ) : Type 0 where
+pub record ReadStep (b out : List ℕ) (a : Result Figures Refusal) (out' : List ℕ) : Type 0 where
   pub answer : a ≡ read_answer b (length out)
   pub output : out' ≡ read_output b out a
 
-pub record WriteStep (W R N : ℕ) (ws out : List ℕ) (a : Writing) (out' : List ℕ) : Type 0 where
+pub record WriteStep (W R N : ℕ) (ws out : List ℕ) (a : Result ℕ Refusal) (out' : List ℕ) : Type 0 where
   pub answer : a ≡ write_answer W R N ws (length out)
   pub output : out' ≡ write_output W R N ws out a

@@ -1,10 +1,8 @@
 -- What program `lay` prints, as bytes. Assumes nothing.
-use Rattle.std.specs.Prelude.{cond, List, [], ◌∷◌, ◌++◌, ℕ, zero, suc, ◌+◌, ◌*◌, ◌/◌, ◌%◌, ltb}
+use Rattle.std.specs.Prelude.{cond, List, [], ◌∷◌, ◌++◌, ℕ, zero, suc, ◌+◌, ◌*◌, ◌/◌, ◌%◌, ltb, Ok, Err}
 use Prim.Native.String.{String}
-use Rattle.defs.specs.declared.Fate.TheVariants.{Placed, Refused}
 use Rattle.defs.specs.declared.Entry.{Entry}
 use Rattle.defs.specs.declared.Totals.{Totals}
-use Rattle.defs.specs.declared.Laying.TheVariants.{Laid, Refused as NotLaid}
 use Rattle.defs.specs.Meaning.Limits.{leading_words, record_words, most_pieces}
 use Rattle.defs.specs.Meaning.Sheet.{sheet_w, sheet_r, sheet_n}
 use Rattle.defs.specs.Computing.Lay.{lay_entries, lay_answer}
@@ -40,8 +38,8 @@ unfoldable pub entry_line : Entry → List ℕ
 entry_line e =
     decimal e.ordinal ++
     elim e.fate [
-      | Placed p ↦ line " placed" (p.turn ∷ p.column ∷ p.height ∷ [])
-      | Refused n ↦ line " refused" (n ∷ [])
+      | Ok p ↦ line " placed" (p.turn ∷ p.column ∷ p.height ∷ [])
+      | Err n ↦ line " refused" (n ∷ [])
     ]
 
 unfoldable pub entry_lines : List Entry → List ℕ
@@ -67,8 +65,8 @@ totals_line t = ascii "used" ++ (32 ∷ (long_decimal t.used ++ line " placed" (
 unfoldable pub lay_text : List ℕ → List ℕ
 lay_text b =
     elim (lay_answer b 0 (program_strip b) (4 * most_pieces) program_work) [
-      | Laid t ↦
+      | Ok t ↦
           line "strip" (sheet_w b ∷ sheet_r b ∷ sheet_n b ∷ []) ++
           (entry_lines (lay_entries b 0 (program_strip b) program_work) ++ totals_line t)
-      | NotLaid r ↦ line "job refused" (r.number ∷ r.ordinal ∷ [])
+      | Err r ↦ line "job refused" (r.number ∷ r.ordinal ∷ [])
     ]

@@ -1,6 +1,5 @@
 -- The walk of S-5 ("How much looking was done"): which heights are tried in which columns, and how many they are. Assumes nothing.
-use Rattle.std.specs.Prelude.{cond, List, [], ◌∷◌, ℕ, zero, suc, ◌+◌, ◌*◌, ◌-◌, leb, length}
-use Rattle.std.proofs.Math.Option.{Option, none, some}
+use Rattle.std.specs.Prelude.{cond, List, [], ◌∷◌, ℕ, zero, suc, ◌+◌, ◌*◌, ◌-◌, leb, length, Option, Some, None}
 use Rattle.defs.specs.declared.Position.{Position}
 use Rattle.defs.specs.Meaning.Turn.{extent_x, extent_y}
 use Rattle.defs.specs.Meaning.Placing.{columns_for}
@@ -15,26 +14,26 @@ pub record Clash : Type 0 where
 
 -- "the lowest occupied run that it meets": of a column's runs, which rise, the first that the piece's run r meets at height y
 unfoldable pub lowest_met : ℕ → Rows → List Rows → Option Rows
-lowest_met y r [] = none
-lowest_met y r (b ∷ bs) = let later = lowest_met y r bs in cond (meets y r b) (some b) later
+lowest_met y r [] = None
+lowest_met y r (b ∷ bs) = let later = lowest_met y r bs in cond (meets y r b) (Some b) later
 
 -- what a run of the piece says, or else the others
 unfoldable pub clash_or : Rows → Option Rows → Option Clash → Option Clash
-clash_or r none others = others
-clash_or r (some b) others = some (record { own = r; met = b })
+clash_or r None others = others
+clash_or r (Some b) others = Some (record { own = r; met = b })
 
 -- "the piece's first clashing run by column and then low": in one column, and from column to column
 unfoldable pub clash_in : ℕ → List Rows → List Rows → Option Clash
-clash_in y [] b = none
+clash_in y [] b = None
 clash_in y (r ∷ rs) b = let others = clash_in y rs b in clash_or r (lowest_met y r b) others
 
 unfoldable pub first_of : Option Clash → Option Clash → Option Clash
-first_of none later = later
-first_of (some m) later = some m
+first_of None later = later
+first_of (Some m) later = Some m
 
 unfoldable pub first_clash : ℕ → List (List Rows) → List (List Rows) → Option Clash
-first_clash y [] strip = none
-first_clash y (c ∷ cs) [] = none
+first_clash y [] strip = None
+first_clash y (c ∷ cs) [] = None
 first_clash y (c ∷ cs) (b ∷ bs) = let later = first_clash y cs bs in first_of (clash_in y c b) later
 
 -- "The next height is that occupied run's high less the piece run's low."
@@ -43,8 +42,8 @@ next_height m = m.met.high - m.own.low
 
 -- what follows after a clash, or nothing after a free position
 unfoldable pub goes_on : Option Clash → (ℕ → List ℕ) → List ℕ
-goes_on none from = []
-goes_on (some m) from = from (next_height m)
+goes_on None from = []
+goes_on (Some m) from = from (next_height m)
 
 -- The heights tried in one column from y on, at most n of them: "A height past the top … is no try and ends its column".
 -- `there` are the strip's columns from that column on, h is the piece's height.
@@ -78,10 +77,10 @@ unfoldable pub free_among : ℕ → ℕ → List (List Rows) → List (List Rows
 free_among t c piece there [] later = later
 free_among t c piece there (y ∷ ys) later =
     let rest = free_among t c piece there ys later in
-    cond (freeb y piece there) (some (position t c y)) rest
+    cond (freeb y piece there) (Some (position t c y)) rest
 
 unfoldable pub end_from : ℕ → List (List Rows) → List (List Rows) → ℕ → List (List ℕ) → Option Position
-end_from t piece strip c [] = none
+end_from t piece strip c [] = None
 end_from t piece strip c (ys ∷ cs) =
     let later = end_from t piece strip (suc c) cs in
     free_among t c piece (drop_n c strip) ys later

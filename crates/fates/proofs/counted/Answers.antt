@@ -4,8 +4,8 @@ use Prim.Native.Nat.{◌+◌}
 use native.Mathlib.Omega.{arith}
 use Rattle.fates.proofs.counted.Goals as goal
 
-pub returns-in-Placed : goal.returns-in-Placed
-returns-in-Placed c = rw (c.lower_of-lower.ensures, c.in-Placed.is, c.greater-used.ensures)
+pub returns-in-Ok : goal.returns-in-Ok
+returns-in-Ok c = rw (c.lower_of-lower.ensures, c.in-Ok.is, c.greater-used.ensures)
 
-pub returns-in-Refused : goal.returns-in-Refused
-returns-in-Refused c = let z : c.args.t.placed + 0 ≡ c.args.t.placed = omega arith in rw (c.lower_of-lower.ensures, c.in-Refused.is, c.greater-used.ensures, z)
+pub returns-in-Err : goal.returns-in-Err
+returns-in-Err c = let z : c.args.t.placed + 0 ≡ c.args.t.placed = omega arith in rw (c.lower_of-lower.ensures, c.in-Err.is, c.greater-used.ensures, z)

@@ -9,8 +9,8 @@ pub extent_of-e-requires : goal.extent_of-e-requires
 extent_of-e-requires c = let p = c.requires in record {
   fact_1 = omega (arith, p.fact_1.some);
   fact_2 = p.fact_2;
-  fact_3 = p.fact_3 _ c.in-Placed.is;
+  fact_3 = p.fact_3 _ c.in-Ok.is;
 }
 
-pub returns-in-Placed : goal.returns-in-Placed
-returns-in-Placed c = edge_is c.args.o.now c.args.r c.in-Placed.p c.extent_of-e.ensures.0 c.right_edge.ensures ∙ ap (edge_of _ _) (sym c.in-Placed.is)
+pub returns-in-Ok : goal.returns-in-Ok
+returns-in-Ok c = edge_is c.args.o.now c.args.r c.in-Ok.p c.extent_of-e.ensures.0 c.right_edge.ensures ∙ ap (edge_of _ _) (sym c.in-Ok.is)

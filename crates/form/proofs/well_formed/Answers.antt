@@ -3,7 +3,7 @@ use mathlib.Core.Path.{sym}
 use Rattle.form.proofs.well_formed.Goals as goal
 
 pub whole-requires : goal.whole-requires
-whole-requires c = rw c.in-Kept.is at c.measure.ensures
+whole-requires c = rw c.in-Some.is at c.measure.ensures
 
-pub returns-in-Ill : goal.returns-in-Ill
-returns-in-Ill c = sym (rw c.in-Ill.is at c.measure.ensures)
+pub returns-in-None : goal.returns-in-None
+returns-in-None c = sym (rw c.in-None.is at c.measure.ensures)

@@ -9,30 +9,30 @@ loop-c-init c = on_start c.requires
 
 pub overflow_add-total : goal.overflow_add-total
 overflow_add-total c =
-    let d = rw c.in-Whole.is at c.column_chain.ensures in
+    let d = rw c.in-Some.is at c.column_chain.ensures in
     omega (arith, on_fits c.loop-c.invariant _ d)
 
 pub loop-c-preserved : goal.loop-c-preserved
 loop-c-preserved c =
-    let d = rw c.in-Whole.is at c.column_chain.ensures in
+    let d = rw c.in-Some.is at c.column_chain.ensures in
     on_next c.loop-c.invariant (omega arith) d
 
-pub returns-in-Broken : goal.returns-in-Broken
-returns-in-Broken c =
-    let d = rw c.in-Broken.is at c.column_chain.ensures in
+pub returns-in-None : goal.returns-in-None
+returns-in-None c =
+    let d = rw c.in-None.is at c.column_chain.ensures in
     sym (broken c.loop-c.invariant.sized (omega arith) d)
 
 pub overflow_add-result : goal.overflow_add-result
 overflow_add-result c =
-    let d = rw c.in-Whole-free_chain.is at c.free_chain.ensures in
+    let d = rw c.in-Some-free_chain.is at c.free_chain.ensures in
     omega (arith, end_fits c.loop-c.invariant (omega arith) d)
 
-pub returns-in-Whole-free_chain : goal.returns-in-Whole-free_chain
-returns-in-Whole-free_chain c =
-    let d = rw c.in-Whole-free_chain.is at c.free_chain.ensures in
+pub returns-in-Some-free_chain : goal.returns-in-Some-free_chain
+returns-in-Some-free_chain c =
+    let d = rw c.in-Some-free_chain.is at c.free_chain.ensures in
     ended c.loop-c.invariant (omega arith) d
 
-pub returns-in-Broken-free_chain : goal.returns-in-Broken-free_chain
-returns-in-Broken-free_chain c =
-    let d = rw c.in-Broken-free_chain.is at c.free_chain.ensures in
+pub returns-in-None-free_chain : goal.returns-in-None-free_chain
+returns-in-None-free_chain c =
+    let d = rw c.in-None-free_chain.is at c.free_chain.ensures in
     sym (broken c.loop-c.invariant.sized (omega arith) d)

@@ -4,7 +4,7 @@ use Rattle.checks.proofs.Bounded.{lent_by}
 use Rattle.notes.proofs.edge_numbered.Goals as goal
 
 pub edge-requires : goal.edge-requires
-edge-requires c = let p = rw c.in-Passes.is at c.bounds.ensures in record {
+edge-requires c = let p = rw c.in-Ok.is at c.bounds.ensures in record {
   fact_1 = lent_by _ p.0;
   fact_2 = omega arith;
 }

@@ -2,8 +2,8 @@
 use Rattle.packing.proofs.Bits.{no_value, refused}
 use Rattle.packing.proofs.pack_committing.Goals as goal
 
-pub returns-in-Committed : goal.returns-in-Committed
-returns-in-Committed c = rw c.in-Committed.is no_value
+pub returns-in-Ok : goal.returns-in-Ok
+returns-in-Ok c = rw c.in-Ok.is no_value
 
-pub returns-in-Refused : goal.returns-in-Refused
-returns-in-Refused c = rw c.in-Refused.is (refused c.pack_refusal.ensures)
+pub returns-in-Err : goal.returns-in-Err
+returns-in-Err c = rw c.in-Err.is (refused c.pack_refusal.ensures)

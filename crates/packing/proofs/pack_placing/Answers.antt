@@ -2,8 +2,8 @@
 use Rattle.packing.proofs.Bits.{three_values, refused}
 use Rattle.packing.proofs.pack_placing.Goals as goal
 
-pub returns-in-Placed : goal.returns-in-Placed
-returns-in-Placed c = rw c.in-Placed.is (three_values c.pack.ensures)
+pub returns-in-Ok : goal.returns-in-Ok
+returns-in-Ok c = rw c.in-Ok.is (three_values c.pack.ensures)
 
-pub returns-in-Refused : goal.returns-in-Refused
-returns-in-Refused c = rw c.in-Refused.is (refused c.pack_refusal.ensures)
+pub returns-in-Err : goal.returns-in-Err
+returns-in-Err c = rw c.in-Err.is (refused c.pack_refusal.ensures)

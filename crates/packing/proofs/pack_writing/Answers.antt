@@ -2,8 +2,8 @@
 use Rattle.packing.proofs.Bits.{one_wide, refused_wide}
 use Rattle.packing.proofs.pack_writing.Goals as goal
 
-pub returns-in-Written : goal.returns-in-Written
-returns-in-Written c = rw c.in-Written.is (one_wide c.pack_wide.ensures)
+pub returns-in-Ok : goal.returns-in-Ok
+returns-in-Ok c = rw c.in-Ok.is (one_wide c.pack_wide.ensures)
 
-pub returns-in-Refused : goal.returns-in-Refused
-returns-in-Refused c = rw c.in-Refused.is (refused_wide c.pack_refusal.ensures)
+pub returns-in-Err : goal.returns-in-Err
+returns-in-Err c = rw c.in-Err.is (refused_wide c.pack_refusal.ensures)

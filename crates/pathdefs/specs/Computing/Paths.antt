@@ -1,13 +1,10 @@
 -- What read_path and write_path answer, and what they leave in each lent buffer. Assumes nothing.
-use Rattle.std.specs.Prelude.{◌≡◌, Bool, true, cond, ◌&&◌, ◌||◌, List, [], ◌∷◌, ◌++◌, ℕ, zero, suc, ◌+◌, ◌*◌, ◌-◌, ◌/◌, ◌%◌, ◌^◌, leb, ltb, eqb, length, get_or, drop}
+use Rattle.std.specs.Prelude.{◌≡◌, Bool, true, cond, ◌&&◌, ◌||◌, List, [], ◌∷◌, ◌++◌, ℕ, zero, suc, ◌+◌, ◌*◌, ◌-◌, ◌/◌, ◌%◌, ◌^◌, leb, ltb, eqb, length, get_or, drop, Result, Ok, Err}
 use Rattle.std.specs.Float.Ieee.{size}
-use Rattle.defs.specs.declared.Writing.{Writing}
-use Rattle.defs.specs.declared.Writing.TheVariants.{Written, Refused as NotWritten}
+use Rattle.defs.specs.declared.Refusal.{Refusal}
 use Rattle.defs.specs.Meaning.Limits.{most_coordinate}
 use Rattle.defs.specs.Computing.Test.{ask}
 use Rattle.defs.specs.Computing.Calls.{refusal, q7b, q8b}
-use Rattle.pathdefs.specs.declared.PathReading.{PathReading}
-use Rattle.pathdefs.specs.declared.PathReading.TheVariants.{Words, Refused as NotRead}
 use Rattle.pathdefs.specs.Meaning.Path.{bits_of, sign_of, exponent_of, magnitude, step_bytes, path_size}
 
 -- the bits of the coordinate at byte i
@@ -56,16 +53,16 @@ path_words b = vertex_units (vertices_in b) b
 
 -- read_path
 
-unfoldable pub read_path_answer : List ℕ → ℕ → PathReading
+unfoldable pub read_path_answer : List ℕ → ℕ → Result ℕ Refusal
 read_path_answer b words =
-    ask (q19b b) (NotRead (refusal 19 0)) λ _.
-    ask (q20b b) (NotRead (refusal 20 0)) λ _.
-    ask (leb (2 * vertices_in b) words) (NotRead (refusal 15 0)) λ _.
-    Words (2 * vertices_in b)
+    ask (q19b b) (Err (refusal 19 0)) λ _.
+    ask (q20b b) (Err (refusal 20 0)) λ _.
+    ask (leb (2 * vertices_in b) words) (Err (refusal 15 0)) λ _.
+    Ok (2 * vertices_in b)
 
-unfoldable pub read_path_output : List ℕ → List ℕ → PathReading → List ℕ
-read_path_output b out (Words n) = path_words b ++ drop n out
-read_path_output b out (NotRead r) = out
+unfoldable pub read_path_output : List ℕ → List ℕ → Result ℕ Refusal → List ℕ
+read_path_output b out (Ok n) = path_words b ++ drop n out
+read_path_output b out (Err r) = out
 
 -- write_path
 
@@ -94,23 +91,23 @@ path_bytes [] = []
 path_bytes (x ∷ []) = []
 path_bytes (x ∷ (y ∷ ws)) = vertex_bytes 1 x y ++ lines_bytes ws
 
-unfoldable pub write_path_answer : List ℕ → ℕ → Writing
+unfoldable pub write_path_answer : List ℕ → ℕ → Result ℕ Refusal
 write_path_answer o bytes =
-    ask (q7b o) (NotWritten (refusal 7 1)) λ _.
-    ask (q8b o) (NotWritten (refusal 8 1)) λ _.
-    ask (leb (path_size o) bytes) (NotWritten (refusal 15 0)) λ _.
-    Written (path_size o)
+    ask (q7b o) (Err (refusal 7 1)) λ _.
+    ask (q8b o) (Err (refusal 8 1)) λ _.
+    ask (leb (path_size o) bytes) (Err (refusal 15 0)) λ _.
+    Ok (path_size o)
 
-unfoldable pub write_path_output : List ℕ → List ℕ → Writing → List ℕ
-write_path_output o out (Written n) = path_bytes o ++ drop n out
-write_path_output o out (NotWritten r) = out
+unfoldable pub write_path_output : List ℕ → List ℕ → Result ℕ Refusal → List ℕ
+write_path_output o out (Ok n) = path_bytes o ++ drop n out
+write_path_output o out (Err r) = out
 
 -- The contracts of the calls.
 
-pub record PathReadStep (b out : List ℕ) (a : PathReading) (out' : List ℕ) : Type 0 where
+pub record PathReadStep (b out : List ℕ) (a : Result ℕ Refusal) (out' : List ℕ) : Type 0 where
   pub answer : a ≡ read_path_answer b (length out)
   pub output : out' ≡ read_path_output b out a
 
-pub record PathWriteStep (o out : List ℕ) (a : Writing) (out' : List ℕ) : Type 0 where
+pub record PathWriteStep (o out : List ℕ) (a : Result ℕ Refusal) (out' : List ℕ) : Type 0 where
   pub answer : a ≡ write_path_answer o (length out)
   pub output : out' ≡ write_path_output o out a

@@ -2,5 +2,5 @@
 use Rattle.pathfile.proofs.Room.{room}
 use Rattle.pathfile.proofs.read_words.Goals as goal
 
-pub returns-in-Words : goal.returns-in-Words
-returns-in-Words c = room (rw c.in-Words.is at c.read_path.ensures)
+pub returns-in-Ok : goal.returns-in-Ok
+returns-in-Ok c = room (rw c.in-Ok.is at c.read_path.ensures)

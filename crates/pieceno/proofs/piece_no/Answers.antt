@@ -8,21 +8,21 @@ use Rattle.cutlist.proofs.Words.{no_7, no_of}
 use Rattle.pieceno.proofs.piece_no.Goals as goal
 
 pub overflow_mul-e : goal.overflow_mul-e
-overflow_mul-e c = let g = rw c.in-Whole.is at c.gather.ensures in omega (arith, g.few)
+overflow_mul-e c = let g = rw c.in-Some.is at c.gather.ensures in omega (arith, g.few)
 
 pub slice_bounds-words-end : goal.slice_bounds-words-end
-slice_bounds-words-end c = let g = rw c.in-Whole.is at c.gather.ensures in omega (arith, g.few, gathered_long g)
+slice_bounds-words-end c = let g = rw c.in-Some.is at c.gather.ensures in omega (arith, g.few, gathered_long g)
 
 pub slice_bounds-outline_no-end : goal.slice_bounds-outline_no-end
 slice_bounds-outline_no-end c =
-    let g = rw c.in-Whole.is at c.gather.ensures in
+    let g = rw c.in-Some.is at c.gather.ensures in
     sym (length-take-le _ _ (omega (arith, g.few, gathered_long g)))
 
-pub returns-in-Whole : goal.returns-in-Whole
-returns-in-Whole c =
-    no_of _ _ c.requires.fact_1 (ap (λ (n : Numbers). n.first) c.visit-piece.ensures) (rw c.in-Whole.is at c.gather.ensures)
+pub returns-in-Some : goal.returns-in-Some
+returns-in-Some c =
+    no_of _ _ c.requires.fact_1 (ap (λ (n : Numbers). n.first) c.visit-piece.ensures) (rw c.in-Some.is at c.gather.ensures)
     (omega arith) (ap (λ (n : Numbers). n.second) c.visit-piece.ensures) c.requires.fact_2 c.nine.ensures c.outline_no.ensures
 
-pub returns-in-Broken : goal.returns-in-Broken
-returns-in-Broken c =
-    no_7 _ _ c.requires.fact_1 (ap (λ (n : Numbers). n.first) c.visit-piece.ensures) (rw c.in-Broken.is at c.gather.ensures)
+pub returns-in-None : goal.returns-in-None
+returns-in-None c =
+    no_7 _ _ c.requires.fact_1 (ap (λ (n : Numbers). n.first) c.visit-piece.ensures) (rw c.in-None.is at c.gather.ensures)

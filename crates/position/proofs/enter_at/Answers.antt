@@ -21,8 +21,8 @@ enter-requires c = let tabled = c.requires.fact_1 in
       fact_3 = (tabled.firsts, tabled.lows, tabled.highs);
     }
 
-pub returns-in-Runs : goal.returns-in-Runs
-returns-in-Runs c = placed c.args.p c.requires.fact_1 c.requires.fact_2 c.stand_runs-k.ensures (rw c.in-Runs.is at c.enter.ensures)
+pub returns-in-Some : goal.returns-in-Some
+returns-in-Some c = placed c.args.p c.requires.fact_1 c.requires.fact_2 c.stand_runs-k.ensures (rw c.in-Some.is at c.enter.ensures)
 
-pub returns-in-Full : goal.returns-in-Full
-returns-in-Full c = full c.args.p c.requires.fact_1 c.requires.fact_2 c.stand_runs-k.ensures (rw c.in-Full.is at c.enter.ensures) c.refused.ensures
+pub returns-in-None : goal.returns-in-None
+returns-in-None c = full c.args.p c.requires.fact_1 c.requires.fact_2 c.stand_runs-k.ensures (rw c.in-None.is at c.enter.ensures) c.refused.ensures

@@ -20,20 +20,20 @@ returns-then-room-s c = untried_on _ c.untried-then-room-s.ensures (twelve _ _ _
 pub enter_at-requires : goal.enter_at-requires
 enter_at-requires c = record {
   fact_1 = c.requires.fact_1;
-  fact_2 = enterable _ _ _ _ c.args.q _ _ _ _ c.requires.fact_1.limits.resolution.at_least c.requires.fact_2 c.best_turn-s.ensures.fact_1 c.if-s-eq0.false c.if-room-s.false _ refl c.requires.fact_1.table c.requires.fact_3 c.in-Chosen.is (search rules);
+  fact_2 = enterable _ _ _ _ c.args.q _ _ _ _ c.requires.fact_1.limits.resolution.at_least c.requires.fact_2 c.best_turn-s.ensures.fact_1 c.if-s-eq0.false c.if-room-s.false _ refl c.requires.fact_1.table c.requires.fact_3 c.in-Some.is (search rules);
   fact_3 = c.best_turn-s.ensures.fact_2;
 }
 
-pub returns-in-Chosen : goal.returns-in-Chosen
-returns-in-Chosen c =
+pub returns-in-Some : goal.returns-in-Some
+returns-in-Some c =
     record {
-      placed = placed_on _ c.enter_at.ensures (fourteen _ _ _ _ _ _ _ _ _ c.requires.fact_1.limits.resolution.at_least c.requires.fact_2 c.best_turn-s.ensures.fact_1 c.if-s-eq0.false c.if-room-s.false _ c.in-Chosen.is);
+      placed = placed_on _ c.enter_at.ensures (fourteen _ _ _ _ _ _ _ _ _ c.requires.fact_1.limits.resolution.at_least c.requires.fact_2 c.best_turn-s.ensures.fact_1 c.if-s-eq0.false c.if-room-s.false _ c.in-Some.is);
       counted = tries_on_lem _ _ _ _ c.args.q _ _ _ _ c.requires.fact_1.limits.resolution.at_least c.requires.fact_2 c.best_turn-s.ensures.fact_1 c.if-s-eq0.false c.if-room-s.false;
     }
 
-pub returns-in-Nowhere : goal.returns-in-Nowhere
-returns-in-Nowhere c =
+pub returns-in-None : goal.returns-in-None
+returns-in-None c =
     record {
-      placed = refused_on c.refused.ensures (thirteen _ _ _ _ _ _ _ _ _ c.requires.fact_1.limits.resolution.at_least c.requires.fact_2 c.best_turn-s.ensures.fact_1 c.if-s-eq0.false c.if-room-s.false c.in-Nowhere.is);
+      placed = refused_on c.refused.ensures (thirteen _ _ _ _ _ _ _ _ _ c.requires.fact_1.limits.resolution.at_least c.requires.fact_2 c.best_turn-s.ensures.fact_1 c.if-s-eq0.false c.if-room-s.false c.in-None.is);
       counted = tries_on_lem _ _ _ _ c.args.q _ _ _ _ c.requires.fact_1.limits.resolution.at_least c.requires.fact_2 c.best_turn-s.ensures.fact_1 c.if-s-eq0.false c.if-room-s.false;
     }

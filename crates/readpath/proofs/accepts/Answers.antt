@@ -21,7 +21,7 @@ pub bounds-words-i-in-loop-i : goal.bounds-words-i-in-loop-i
 bounds-words-i-in-loop-i c = lt-length-set c.loop-i.words _ _ (omega (arith, c.loop-i.invariant.same, c.requires.fact_2, c.loop-i-test.true))
 
 pub loop-i-preserved : goal.loop-i-preserved
-loop-i-preserved c = keeping_next c.loop-i.invariant c.loop-i-test.true c.vertex_at.ensures c.in-At.is
+loop-i-preserved c = keeping_next c.loop-i.invariant c.loop-i-test.true c.vertex_at.ensures c.in-Some.is
 
 pub shape_of-words : goal.shape_of-words
 shape_of-words c = c.loop-i.invariant.same

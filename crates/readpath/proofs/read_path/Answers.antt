@@ -4,7 +4,7 @@ use Rattle.readpath.proofs.Outputs.{other_shape}
 use Rattle.readpath.proofs.read_path.Goals as goal
 
 pub read_shaped-requires : goal.read_shaped-requires
-read_shaped-requires c = rw c.in-Vertices.is at c.shape_of.ensures
+read_shaped-requires c = rw c.in-Some.is at c.shape_of.ensures
 
-pub returns-in-Other : goal.returns-in-Other
-returns-in-Other c = other_shape (rw c.in-Other.is at c.shape_of.ensures) c.refused.ensures refl
+pub returns-in-None : goal.returns-in-None
+returns-in-None c = other_shape (rw c.in-None.is at c.shape_of.ensures) c.refused.ensures refl

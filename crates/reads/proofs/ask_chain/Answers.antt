@@ -6,7 +6,7 @@ pub piece_chain-requires : goal.piece_chain-requires
 piece_chain-requires c = in_sheet c.requires
 
 pub ask_pieces-requires : goal.ask_pieces-requires
-ask_pieces-requires c = let g = rw c.in-Whole.is at c.piece_chain.ensures in record { begun = c.requires; six = g.passes; long = g.long }
+ask_pieces-requires c = let g = rw c.in-Some.is at c.piece_chain.ensures in record { begun = c.requires; six = g.passes; long = g.long }
 
-pub returns-in-Broken : goal.returns-in-Broken
-returns-in-Broken c = no_6 c.requires (rw c.in-Broken.is at c.piece_chain.ensures)
+pub returns-in-None : goal.returns-in-None
+returns-in-None c = rw c.refused.ensures (no_6 c.requires (rw c.in-None.is at c.piece_chain.ensures))

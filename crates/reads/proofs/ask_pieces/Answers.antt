@@ -1,6 +1,8 @@
 -- 7 to 11 by the first piece with a "no". Assumes nothing.
-use mathlib.Core.Path.{refl}
+use mathlib.Core.Path.{◌≡◌, refl}
 use native.Mathlib.Omega.{arith}
+use borrow.Author.Rules.{rules}
+use Rattle.std.specs.Prelude.{Err}
 use Rattle.reads.proofs.Outputs.{long, chain_ends, resolution, no_piece}
 use Rattle.reads.proofs.ask_pieces.Goals as goal
 
@@ -13,8 +15,10 @@ first_no-requires c = record {
   fact_2 = resolution c.requires.begun;
 }
 
-pub returns-in-Pass : goal.returns-in-Pass
-returns-in-Pass c = record { passed = record { counted = c.requires; none_no = rw c.in-Pass.is at c.first_no.ensures }; gap_fits = refl; four = refl }
+pub returns : goal.returns
+returns c = record { passed = record { counted = c.requires; none_no = rw c.in_ok-first_no.was at c.first_no.ensures }; gap_fits = refl; four = refl }
 
-pub returns-in-At : goal.returns-in-At
-returns-in-At c = no_piece c.requires (rw c.in-At.is at c.first_no.ensures)
+pub returns-in_err-first_no : goal.returns-in_err-first_no
+returns-in_err-first_no c =
+    let e : c.from_residual.result ≡ Err c.in_err-first_no.field-0.0 = search rules in
+    rw e (no_piece c.requires (rw c.in_err-first_no.was at c.first_no.ensures))

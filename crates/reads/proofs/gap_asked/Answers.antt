@@ -2,5 +2,5 @@
 use mathlib.Core.Path.{sym, ◌∙◌}
 use Rattle.reads.proofs.gap_asked.Goals as goal
 
-pub returns-in-Lent : goal.returns-in-Lent
-returns-in-Lent c = c.gap_fits.ensures ∙ sym (rw c.in-Lent.is)
+pub returns-in-Some : goal.returns-in-Some
+returns-in-Some c = c.gap_fits.ensures ∙ sym (rw c.in-Some.is)

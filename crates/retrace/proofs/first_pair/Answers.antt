@@ -11,10 +11,10 @@ pub loop-i-init : goal.loop-i-init
 loop-i-init c = (search rules, search rules, begin_pairs _)
 
 pub pair-requires : goal.pair-requires
-pair-requires c = let l = (rw c.in-Edge.is at c.shared_after.ensures).1 in (omega (arith, c.requires.few), omega (arith, c.requires.few))
+pair-requires c = let l = (rw c.in-Some.is at c.shared_after.ensures).1 in (omega (arith, c.requires.few), omega (arith, c.requires.few))
 
-pub returns-in-Edge : goal.returns-in-Edge
-returns-in-Edge c = c.pair.ensures ∙ ap traced (sym (left_found _ _ _ (omega arith) c.loop-i.invariant.2 _ (pair_found _ _ _ (rw c.in-Edge.is at c.shared_after.ensures).0)))
+pub returns-in-Some : goal.returns-in-Some
+returns-in-Some c = c.pair.ensures ∙ ap traced (sym (left_found _ _ _ (omega arith) c.loop-i.invariant.2 _ (pair_found _ _ _ (rw c.in-Some.is at c.shared_after.ensures).0)))
 
 pub loop-i-preserved : goal.loop-i-preserved
 loop-i-preserved c = (search rules, search rules, left_next _ _ _ (omega arith) c.loop-i.invariant.2 (pair_none _ _ (rw c.in-None.is at c.shared_after.ensures)))

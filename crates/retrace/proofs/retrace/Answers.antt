@@ -4,10 +4,10 @@ use Rattle.retrace.proofs.Scan.{refused_no, looked}
 use Rattle.retrace.proofs.retrace.Goals as goal
 
 pub first_pair-requires : goal.first_pair-requires
-first_pair-requires c = let p = rw c.in-Passes.is at c.bounds.ensures in lent_by _ p.0
+first_pair-requires c = let p = rw c.in-Ok.is at c.bounds.ensures in lent_by _ p.0
 
-pub returns-in-No : goal.returns-in-No
-returns-in-No c = let p = rw c.in-No.is at c.bounds.ensures in refused_no p.0 p.1 c.refused.ensures
+pub returns-in-Err : goal.returns-in-Err
+returns-in-Err c = let p = rw c.in-Err.is at c.bounds.ensures in refused_no p.0 p.1 c.refused.ensures
 
-pub returns-in-Passes : goal.returns-in-Passes
-returns-in-Passes c = let p = rw c.in-Passes.is at c.bounds.ensures in looked p.0 c.first_pair.ensures
+pub returns-in-Ok : goal.returns-in-Ok
+returns-in-Ok c = let p = rw c.in-Ok.is at c.bounds.ensures in looked p.0 c.first_pair.ensures

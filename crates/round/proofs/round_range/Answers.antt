@@ -17,21 +17,21 @@ round_column-requires c = let pre = c.requires in
       fact_2 = (omega (arith, c.range_end-end.ensures), omega arith, pre.fact_2, c.loop-c.invariant.1);
     }
 
-pub returns-in-Up : goal.returns-in-Up
-returns-in-Up c =
+pub returns-in-Ok : goal.returns-in-Ok
+returns-in-Ok c =
     let g = c.loop-c.invariant.0 in
     let end = c.range_end-end.ensures in
     record {
       at_least = g.start;
       below = omega (arith, end);
       fits = omega (arith, end);
-      height = rw c.in-Up.is at c.round_column.ensures;
+      height = rw c.in-Ok.is at c.round_column.ensures;
       least = λ b u v. g.none b v u;
     }
 
 pub loop-c-preserved : goal.loop-c-preserved
 loop-c-preserved c =
-    let stop = rw c.in-Full.is at c.round_column.ensures in
+    let stop = rw c.in-Err.is at c.round_column.ensures in
     (full_more c.loop-c.invariant.0 stop.none, omega (arith, stop.among))
 
 pub returns : goal.returns

@@ -2,4 +2,4 @@
 use Rattle.shapes.proofs.put_piece.Goals as goal
 
 pub put_shape-requires : goal.put_shape-requires
-put_shape-requires c = rw c.in-Passes.is at c.placed_bounds.ensures
+put_shape-requires c = rw c.in-Ok.is at c.placed_bounds.ensures

@@ -2,4 +2,4 @@
 use Rattle.shapes.proofs.put_round.Goals as goal
 
 pub put_loop-requires : goal.put_loop-requires
-put_loop-requires c = rw c.in-Passes.is at c.placed_bounds.ensures
+put_loop-requires c = rw c.in-Ok.is at c.placed_bounds.ensures

@@ -2,4 +2,4 @@
 use Rattle.shapes.proofs.put_stretches.Goals as goal
 
 pub put_dashed-requires : goal.put_dashed-requires
-put_dashed-requires c = rw c.in-Passes.is at c.placed_bounds.ensures
+put_dashed-requires c = rw c.in-Ok.is at c.placed_bounds.ensures

@@ -17,13 +17,13 @@ loop-c-init c = turn_start _ _ _ _ _ _ _ _ _
 pub overflow_add-tries : goal.overflow_add-tries
 overflow_add-tries c = omega (arith, c.loop-c.invariant.few, c.walk_column-x.ensures.few)
 
-pub returns-in-Up : goal.returns-in-Up
-returns-in-Up c =
+pub returns-in-Some : goal.returns-in-Some
+returns-in-Some c =
     let inv = c.loop-c.invariant in
     let x = c.walk_column-x.ensures in
     record {
-      spot = record { fits = omega arith; height = rw c.in-Up.is at x.height; least = inv.left.none };
-      steps = turn_found inv (omega arith) (rw c.in-Up.is at x.steps);
+      spot = record { fits = omega arith; height = rw c.in-Some.is at x.height; least = inv.left.none };
+      steps = turn_found inv (omega arith) (rw c.in-Some.is at x.steps);
       few = omega (arith, inv.few, x.few);
     }
 
@@ -31,7 +31,7 @@ pub loop-c-preserved : goal.loop-c-preserved
 loop-c-preserved c =
     let inv = c.loop-c.invariant in
     let x = c.walk_column-x.ensures in
-    turn_more inv (omega arith) (rw c.in-Full.is at x.height) (rw c.in-Full.is at x.steps) x.few
+    turn_more inv (omega arith) (rw c.in-None.is at x.height) (rw c.in-None.is at x.steps) x.few
 
 pub returns : goal.returns
 returns c =

@@ -4,9 +4,9 @@ use Rattle.wanted.proofs.look.Goals as goal
 
 pub look_decoded-requires : goal.look_decoded-requires
 look_decoded-requires c = record {
-  fact_1 = rw c.in-Runs.is at c.decode.ensures;
+  fact_1 = rw c.in-Some.is at c.decode.ensures;
   fact_2 = c.requires;
 }
 
-pub returns-in-Ill : goal.returns-in-Ill
-returns-in-Ill c = not_formed _ (rw c.in-Ill.is at c.decode.ensures) c.untried.ensures
+pub returns-in-None : goal.returns-in-None
+returns-in-None c = not_formed _ (rw c.in-None.is at c.decode.ensures) c.untried.ensures

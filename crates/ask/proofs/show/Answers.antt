@@ -1,9 +1,0 @@
--- Each case has its own. Assumes nothing.
-use mathlib.Core.Path.{refl}
-use Rattle.ask.proofs.show.Goals as goal
-
-pub returns-in-Placed : goal.returns-in-Placed
-returns-in-Placed c = rw c.in-Placed.is refl
-
-pub returns-in-Refused : goal.returns-in-Refused
-returns-in-Refused c = rw c.in-Refused.is refl
