@@ -8,7 +8,7 @@ use Prim.Native.Nat.{ℕ, ◌+◌, ◌-◌, ◌*◌, ◌/◌, ◌≤◌, ◌<◌
 use native.Mathlib.Omega.{arith}
 use lib.ListN.{length, take, drop}
 use lib.Seq.{sets, sets-eq, take_at}
-use Rattle.std.specs.Prelude.{Option, Some, None}
+use Rattle.std.specs.Prelude.{Option, Some}
 use Rattle.std.proofs.lemmas.Option.{same_Some, none-some}
 use Rattle.ranks.specs.declared.Ranked.{Ranked}
 use Rattle.defs.specs.declared.Position.{Position}
@@ -31,6 +31,8 @@ use Rattle.tables.specs.Piece.{Stands}
 use Rattle.laws.proofs.First.{first_at}
 use Rattle.tables.proofs.Flats.{table_flat}
 use Rattle.tables.proofs.Copies.{NoneBefore, not_free}
+use Rattle.walk.specs.declared.Spot.{Spot}
+use Rattle.walk.specs.declared.Spot.TheVariants.{Found, None}
 use Rattle.walk.specs.declared.TurnWalk.{TurnWalk}
 use Rattle.walk.specs.Free.{Frame, NoHeight}
 use Rattle.walk.proofs.Searches.{frame_of, free_is, found_is}
@@ -111,7 +113,7 @@ module _
       })
 
   pub spot_fits : {end c y : ℕ} {way : Way} {a : TurnWalk} → W ≤ 16000 → N ≤ 4096 → Looks f l h r N W p wide tall end way a →
-      a.spot ≡ Some (c, y) → (c ≤ 65535) × (y + tall ≤ 65535)
+      a.spot ≡ Found c y → (c ≤ 65535) × (y + tall ≤ 65535)
   spot_fits {end} few many e q =
       let s = subst (SearchedTo f l h r N W p wide tall end) q e.spot in
       (omega (arith, s.fits), omega (arith, s.height.fits))
@@ -138,11 +140,11 @@ module _
         edge_within R (extent_x o t) Rpos c N on_strip,
       )
 
-  finds : (limit : ℕ) (s : Option (ℕ × ℕ)) →
+  finds : (limit : ℕ) (s : Spot) →
       SearchedTo f l h r N W p (columns_for (extent_x o t) R) (extent_y o t) (columns_for (limit + 1 - extent_x o t) R) s →
       FindsTo R N o (first_free W R N g (table_of f l h N) o t) limit (ranked s t (extent_x o t) (extent_y o t) R)
   unfolding right_edge top
-  finds limit (Some (c, y)) e =
+  finds limit (Found c y) e =
       record { is = sym (found_is o t R g small laid stood e); ranks = record { right = refl; top = refl } }
   finds limit None e = after_limit limit e
 

@@ -1,5 +1,5 @@
 -- What is chosen among turns. Assumes nothing.
-use Rattle.std.specs.Prelude.{◌≡◌, true, List, ℕ, ◌+◌, ◌*◌, ◌≤◌, ◌<◌, length, Option, Some, None}
+use Rattle.std.specs.Prelude.{◌≡◌, true, List, ℕ, ◌+◌, ◌*◌, ◌≤◌, ◌<◌, length, Option, Some}
 use Rattle.defs.specs.declared.Position.{Position}
 use Rattle.defs.specs.Meaning.Turn.{extent_x, extent_y}
 use Rattle.defs.specs.Meaning.Placing.{columns_for, right_edge, top}
@@ -10,6 +10,8 @@ use Rattle.outline.specs.declared.Bounds.{Bounds}
 use Rattle.outline.specs.Vertex.{Lent, BoundsOf}
 use Rattle.tables.specs.Flat.{Laid}
 use Rattle.tables.specs.Piece.{Stands}
+use Rattle.walk.specs.declared.Spot.{Spot}
+use Rattle.walk.specs.declared.Spot.TheVariants.{Found, None}
 use Rattle.search.specs.declared.Way.{Way}
 use Rattle.search.specs.declared.Way.TheVariants.{Walk as ByWalk, Round}
 use Rattle.ranks.specs.declared.Ranked.{Ranked}
@@ -33,8 +35,8 @@ Ranks R o None = Unit {0}
 abbrev pub ranked_at : ℕ → ℕ → ℕ → ℕ → ℕ → ℕ → Ranked
 ranked_at c y t w h R = record { at = record { turn = t; column = c; height = y }; right = c * R + w; top = y + h }
 
-abbrev pub ranked : Option (ℕ × ℕ) → ℕ → ℕ → ℕ → ℕ → Option Ranked
-ranked (Some (c, y)) t w h R = Some (ranked_at c y t w h R)
+abbrev pub ranked : Spot → ℕ → ℕ → ℕ → ℕ → Option Ranked
+ranked (Found c y) t w h R = Some (ranked_at c y t w h R)
 ranked None t w h R = None
 
 -- a choice is what the definition finds

@@ -13,7 +13,7 @@ use defs::{Figures, Position};
 use outline::{Bounds, Extent};
 use ranks::{Ranked, Standing, Tried};
 use search::{Edges, Way};
-use walk::Search;
+use walk::{Search, Spot};
 
 // Column c and height y of turn t, with their rank in columns of r units.
 fn rank(c: usize, y: u16, t: u16, e: Extent, r: u16) -> Ranked
@@ -81,7 +81,7 @@ fn try_turn(
     };
     let found = search::search(first, lows, highs, work, figures, way, edges);
     let spot = found.spot;
-    let Some((c, y)) = spot else {
+    let Spot::Found(c, y) = spot else {
         return Tried {
             most: k,
             best: None,

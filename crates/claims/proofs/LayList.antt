@@ -8,9 +8,9 @@ use native.Mathlib.Omega.{arith}
 use lib.Dec.{leb, eqb}
 use lib.ListN.{length, get_or, replicate}
 use borrow.Author.Tests.{leb-true}
-use Rattle.std.specs.Prelude.{None, Result, Ok, Err}
-use Rattle.defs.specs.declared.Position.{Position}
+use Rattle.std.specs.Prelude.{None, Ok, Err}
 use Rattle.defs.specs.declared.Refusal.{Refusal}
+use Rattle.defs.specs.declared.Fate.{Fate}
 use Rattle.defs.specs.declared.Entry.{Entry}
 use Rattle.defs.specs.declared.Totals.{Totals}
 use Rattle.defs.specs.Answer.{fate_words}
@@ -165,7 +165,7 @@ module _ {b : List ℕ} {g : ℕ} {s out work : List ℕ} {t : Totals} {s' out' 
   output m i h l =
       ap (λ (w : List ℕ). get_or w (4 * m + i) 0) x.output ∙
       entries_words_lem entries _ m i (omega (arith, entries_long)) l ∙
-      ap (λ (f : ℕ → Result Position ℕ). get_or (fate_words (f m)) i 0) fates
+      ap (λ (f : ℕ → Fate). get_or (fate_words (f m)) i 0) fates
 
   pub used : Used R (λ m. (call m).outline) (λ m. fate_of (call m).answer) (length ps) t.used
   used = rw (given.totals, ← fates) (used_reached R ps entries entries_long)

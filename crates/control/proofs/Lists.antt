@@ -38,7 +38,7 @@ unfolding open_answer
 refused_number W R N g words r = go (figures_no W R N g) (lengthb N words)
   where
     go : (m : ℕ) (l : Bool) →
-        Err r ≡ (ask (eqb m 0) (Err (refusal m 0)) λ _. ask l (Err (refusal 4 0)) λ _. (Ok tt)) → r.number ≢ 0
+        ◌≡◌ {A = Result Unit Refusal} (Err r) (ask (eqb m 0) (Err (refusal m 0)) λ _. ask l (Err (refusal 4 0)) λ _. Ok tt) → r.number ≢ 0
     go zero true e z = let u : ◌≡◌ {A = ℕ} 0 1 = cc in omega arith
     go zero false e z = let u : r ≡ refusal 4 0 = cc in omega (arith, ap (λ (x : Refusal). x.number) u)
     go (suc m) l e z =
@@ -95,15 +95,15 @@ commit_number s o p words r =
     (q18b (width_of s) (resolution_of s) (columns_of s) (gap_of s) (columns_runs s) o p)
     (q14b (width_of s) (resolution_of s) (gap_of s) (records_of (columns_of s) (length s)) (columns_runs s) o p)
   where
-    told : (m k : ℕ) → Err r ≡ Err (refusal (suc m) k) → r.number ≢ 0
+    told : (m k : ℕ) → ◌≡◌ {A = Result Unit Refusal} (Err r) (Err (refusal (suc m) k)) → r.number ≢ 0
     told m k e z = let u : r ≡ refusal (suc m) k = cc in omega (arith, ap (λ (x : Refusal). x.number) u)
 
     go : (w : Bool) (m : ℕ) (b12 b18 b14 : Bool) →
-        Err r ≡
+        ◌≡◌ {A = Result Unit Refusal} (Err r)
         (ask w (Err (refusal 5 0)) λ _.
         ask (eqb m 0) (Err (refusal m 1)) λ _.
         ask b12 (Err (refusal 12 1)) λ _.
-        ask b18 (Err (refusal 18 0)) λ _. ask b14 (Err (refusal 14 1)) λ _. (Ok tt)) →
+        ask b18 (Err (refusal 18 0)) λ _. ask b14 (Err (refusal 14 1)) λ _. Ok tt) →
         r.number ≢ 0
     go false m b12 b18 b14 e z = told 4 0 e z
     go true (suc m) b12 b18 b14 e z = told m 1 (rw (eqb-suc-zero m) at e) z

@@ -9,6 +9,7 @@ use lib.ListN.{replicate, take}
 use Rattle.std.specs.Prelude.{Some, Result, Ok, Err}
 use Rattle.defs.specs.declared.Position.{Position}
 use Rattle.defs.specs.declared.Refusal.{Refusal}
+use Rattle.defs.specs.declared.Fate.TheVariants.{Placed as FatePlaced}
 use Rattle.defs.specs.Meaning.Outline.{sides}
 use Rattle.defs.specs.Meaning.Turn.{outline_from, turned}
 use Rattle.defs.specs.Meaning.Sheet.{Piece, list_words}
@@ -413,7 +414,7 @@ unfolding runs three
 lay_three_gap = refl
 
 -- "of 32 bits": a piece that ends with the last column of the longest strip, as it is counted and as it is printed.
-longest_used : used_in 400 (in_list (0 ∷ 0 ∷ 400 ∷ 0 ∷ 0 ∷ 1 ∷ []) ∷ []) (record { ordinal = 1; fate = Ok (position 0 4095 0) } ∷ []) ≡ 1638400
+longest_used : used_in 400 (in_list (0 ∷ 0 ∷ 400 ∷ 0 ∷ 0 ∷ 1 ∷ []) ∷ []) (record { ordinal = 1; fate = FatePlaced (position 0 4095 0) } ∷ []) ≡ 1638400
 unfolding runs
 longest_used = refl
 

@@ -1,10 +1,11 @@
 // Program `draw`: lays the sheet on standard input, with the gap in front of it or without one, and prints a picture of the strip in SVG.
 #![tactic(auto)]
 
+use defs::{Refusal, Totals};
 use std::io;
 
 // The lay call, of which only the answer is used here.
-fn lay(sheet: &[u8], gap: u16, strip: &mut [u16], entries: &mut [u16], work: &mut [u16]) -> Laying {
+fn lay(sheet: &[u8], gap: u16, strip: &mut [u16], entries: &mut [u16], work: &mut [u16]) -> Result<Totals, Refusal> {
     laying::lay(sheet, gap, strip, entries, work)
 }
 

@@ -9,7 +9,7 @@ ghost use Rattle.defs.specs.Computing.Lay.{fate_of};
 ghost use Rattle.outline.specs.Vertex.{Lent, BoundsOf};
 ghost use Rattle.fates.specs.Fates.{edge_of, lower_by, tallied, Few};
 
-use defs::{Entry, Position, Refusal};
+use defs::{Entry, Fate, Position, Refusal};
 use outline::Bounds;
 
 // The ordinal of the next piece, the pieces placed and the length used so far, whether the second table is current, and before which right
@@ -23,12 +23,12 @@ pub struct Tally {
     pub lower: u32,
 }
 
-pub fn fate_of(a: Result<Position, Refusal>) -> Result<Position, u16>
+pub fn fate_of(a: Result<Position, Refusal>) -> Fate
     ensures { result ≡ fate_of a }
 {
     match a {
-        Ok(p) => Ok(p),
-        Err(r) => Err(r.number),
+        Ok(p) => Fate::Placed(p),
+        Err(r) => Fate::Refused(r.number),
     }
 }
 
@@ -40,8 +40,8 @@ pub fn put_entry(e: Entry, out: &mut [u16])
     let at = numbers::ENTRY_WORDS * (e.ordinal as usize - 1);
     let f = e.fate;
     match f {
-        Ok(p) => freerecords::put_four(out, at, 0, p.turn, p.column, p.height),
-        Err(n) => freerecords::put_four(out, at, n, 0, 0, 0),
+        Fate::Placed(p) => freerecords::put_four(out, at, 0, p.turn, p.column, p.height),
+        Fate::Refused(n) => freerecords::put_four(out, at, n, 0, 0, 0),
     }
 }
 

@@ -5,8 +5,8 @@ use mathlib.Core.List.{List, [], ◌∷◌}
 use Prim.Native.Nat.{ℕ, suc, ◌+◌, ◌*◌}
 use native.Mathlib.Omega.{arith}
 use lib.ListN.{length, length-append}
-use Rattle.std.specs.Prelude.{Result, Ok, Err}
-use Rattle.defs.specs.declared.Position.{Position}
+use Rattle.defs.specs.declared.Fate.{Fate}
+use Rattle.defs.specs.declared.Fate.TheVariants.{Placed, Refused}
 use Rattle.defs.specs.declared.Entry.{Entry}
 use Rattle.defs.specs.Answer.{fate_words}
 use Rattle.defs.specs.Meaning.Sheet.{Piece}
@@ -24,9 +24,9 @@ length-entries_from W R N g Q words k held (p ∷ ps) =
     ap suc (length-entries_from W R N g Q words (k + 1) (held_after W R g held p.outline a) ps)
 
 -- four words for each entry
-length-fate_words : (f : Result Position ℕ) → length (fate_words f) ≡ 4
-length-fate_words (Ok p) = refl
-length-fate_words (Err n) = refl
+length-fate_words : (f : Fate) → length (fate_words f) ≡ 4
+length-fate_words (Placed p) = refl
+length-fate_words (Refused n) = refl
 
 pub length-entries_words : (es : List Entry) → length (entries_words es) ≡ 4 * length es
 unfolding entries_words

@@ -56,19 +56,13 @@ pub fn pack_placing(a: Result<Position, Refusal>) -> u64
 pub fn pack_asking(a: Result<Position, Refusal>) -> u64
     ensures { Packs result (asking a) }
 {
-    match a {
-        Ok(p) => pack(0, p.turn, p.column, p.height),
-        Err(f) => pack_refusal(f),
-    }
+    pack_placing(a)
 }
 
 pub fn pack_committing(a: Result<(), Refusal>) -> u64
     ensures { Packs result (committing a) }
 {
-    match a {
-        Ok(()) => 0,
-        Err(f) => pack_refusal(f),
-    }
+    pack_opening(a)
 }
 
 pub fn pack_reading(a: Result<Figures, Refusal>) -> u64
@@ -83,10 +77,7 @@ pub fn pack_reading(a: Result<Figures, Refusal>) -> u64
 pub fn pack_writing(a: Result<u32, Refusal>) -> u64
     ensures { PacksWide result (writing a) }
 {
-    match a {
-        Ok(n) => pack_wide(0, n),
-        Err(f) => pack_refusal(f),
-    }
+    pack_covering(a)
 }
 
 pub fn pack_laying(a: Result<Totals, Refusal>) -> u64
@@ -111,8 +102,5 @@ pub fn pack_retracing(a: Result<Option<EdgePair>, Refusal>) -> u64
 pub fn pack_path_reading(a: Result<u32, Refusal>) -> u64
     ensures { PacksWide result (path_reading a) }
 {
-    match a {
-        Ok(n) => pack_wide(0, n),
-        Err(f) => pack_refusal(f),
-    }
+    pack_covering(a)
 }

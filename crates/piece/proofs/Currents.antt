@@ -9,6 +9,7 @@ use lib.Seq.{sets}
 use Rattle.std.specs.Prelude.{Result, Ok, Err}
 use Rattle.defs.specs.declared.Position.{Position}
 use Rattle.defs.specs.declared.Refusal.{Refusal}
+use Rattle.defs.specs.declared.Fate.{Fate}
 use Rattle.defs.specs.Answer.{fate_words}
 use Rattle.defs.specs.Computing.Lay.{fate_of, held_after}
 use Rattle.laws.proofs.Granted.{no_grant, same_grant}
@@ -105,13 +106,13 @@ module _
     {t t' : Tally}
     {a : Result Position Refusal}
     {e : ℕ}
-    {fate : Result Position ℕ}
+    {fate : Fate}
     (x : PlacedBy t.second f l h f₂ l₂ h₂ f' l' h' f₂' l₂' h₂' o W R N g Q mask words a) where
   pub piece_laid : fate ≡ fate_of a → out' ≡ sets out (4 * (t.ordinal - 1)) (fate_words fate) → e ≡ edge_of R o a → t' ≡ tallied t a e →
       PieceLaid f l h f₂ l₂ h₂ f' l' h' f₂' l₂' h₂' out out' o W R N g Q mask words t t'
   piece_laid ef eo ee et =
       record {
         turns = subst (Turns t.second f l h f₂ l₂ h₂ f' l' h' f₂' l₂' h₂' o W R N g Q) x.answer x.turns;
-        output = eo ∙ ap (λ (f : Result Position ℕ). sets out (4 * (t.ordinal - 1)) (fate_words f)) (ef ∙ ap fate_of x.answer);
+        output = eo ∙ ap (λ (f : Fate). sets out (4 * (t.ordinal - 1)) (fate_words f)) (ef ∙ ap fate_of x.answer);
         tally = et ∙ ap (tallied t a) ee ∙ ap (λ (b : Result Position Refusal). tallied t b (edge_of R o b)) x.answer;
       }

@@ -7,7 +7,7 @@ ghost use Rattle.std.specs.Prelude.{◌≡◌, ◌+◌, ◌-◌, ◌≤◌, ◌<
 ghost use Rattle.walk.specs.Free.{Frame};
 ghost use Rattle.round.specs.Range.{SearchedIn};
 
-use walk::Search;
+use walk::{Search, Spot};
 
 // Where the columns end that are below `to` and in which w columns fit.
 fn range_end(n: usize, w: usize, to: usize) -> usize
@@ -28,13 +28,13 @@ pub fn round_range(
     s: Search,
     from: usize,
     to: usize,
-) -> Option<(usize, u16)>
+) -> Spot
     requires fact_1 { Frame first.now lows.now highs.now runs.now s.columns s.width s.runs s.wide s.tall }
     requires fact_2 { s.width ≤ 16000 }
     ensures { SearchedIn first.now lows.now highs.now runs.now s.columns s.width s.runs s.wide s.tall from to result }
 {
     if s.width < s.tall {
-        return None;
+        return Spot::None;
     }
     let end = range_end(s.columns, s.wide, to);
     let mut c = from;
@@ -42,7 +42,7 @@ pub fn round_range(
     while c < end {
         match heights::round_column(first, lows, highs, runs, s, c, k) {
             Ok(y) => {
-                return Some((c, y));
+                return Spot::Found(c, y);
             }
             Err(m) => {
                 k = m;
@@ -50,5 +50,5 @@ pub fn round_range(
             }
         }
     }
-    None
+    Spot::None
 }

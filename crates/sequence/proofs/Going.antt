@@ -10,6 +10,7 @@ use Rattle.std.specs.Prelude.{None, Result, Ok, Err}
 use Rattle.defs.specs.declared.Position.{Position}
 use Rattle.defs.specs.declared.Refusal.{Refusal}
 use Rattle.defs.specs.declared.Entry.{Entry}
+use Rattle.defs.specs.declared.Fate.TheVariants.{Placed as FatePlaced, Refused as FateRefused}
 use Rattle.defs.specs.Answer.{fate_words}
 use Rattle.defs.specs.Meaning.Placing.{right_edge}
 use Rattle.defs.specs.Meaning.Limits.{most_pieces}
@@ -52,7 +53,7 @@ module _ (W R N g Q words k : ℕ) (held : List (List Rows)) (p : Piece) (ps : L
   unfolding entries_from placed_in
   placed_step = ap (λ (n : ℕ). n + placed_in after) (go a)
     where
-      go : (a : Result Position Refusal) → (elim (fate_of a) [ Ok p ↦ 1 | Err n ↦ 0 ]) ≡ one_if a
+      go : (a : Result Position Refusal) → (elim (fate_of a) [ FatePlaced p ↦ 1 | FateRefused n ↦ 0 ]) ≡ one_if a
       go (Ok p) = refl
       go (Err r) = refl
 
@@ -60,7 +61,7 @@ module _ (W R N g Q words k : ℕ) (held : List (List Rows)) (p : Piece) (ps : L
   unfolding entries_from used_in
   used_step = ap (λ (n : ℕ). max n (used_in R ps after)) (go a)
     where
-      go : (a : Result Position Refusal) → (elim (fate_of a) [ Ok q ↦ right_edge R p.outline q | Err n ↦ 0 ]) ≡ edge_of R p.outline a
+      go : (a : Result Position Refusal) → (elim (fate_of a) [ FatePlaced q ↦ right_edge R p.outline q | FateRefused n ↦ 0 ]) ≡ edge_of R p.outline a
       go (Ok q) = refl
       go (Err r) = refl
 

@@ -5,10 +5,10 @@ use mathlib.Core.List.{List}
 use mathlib.Core.Logic.{◌⊎◌, ⊎_elim}
 use Prim.Native.Nat.{ℕ, zero, suc, ◌+◌, ◌-◌, ◌*◌, ◌≤◌, ◌<◌}
 use native.Mathlib.Omega.{arith}
-use Rattle.std.specs.Prelude.{None}
 use Rattle.geom.proofs.Strip.{lt_or_le}
 use Rattle.tables.specs.Piece.{run_column, run_low, run_high}
 use Rattle.tries.specs.Tries.{Lands}
+use Rattle.walk.specs.declared.Spot.TheVariants.{None}
 use Rattle.walk.specs.declared.TurnWalk.{TurnWalk}
 use Rattle.walk.specs.Free.{Before, Least, NoHeight}
 use Rattle.walk.specs.Steps.{Steps, past, free, jump, TurnSteps, off, found, next, WalkedTurn}

@@ -10,7 +10,7 @@ use Prim.Native.Nat.{ℕ, ◌+◌, ◌-◌, ◌≤◌, ◌<◌}
 use native.Mathlib.Omega.{arith}
 use lib.ListN.{get_or}
 use borrow.Author.Tests.{not-true}
-use Rattle.std.specs.Prelude.{Option, Some, None}
+use Rattle.std.specs.Prelude.{Option, Some}
 use Rattle.defs.specs.declared.Position.{Position}
 use Rattle.defs.specs.Meaning.Turn.{extent_x, extent_y}
 use Rattle.defs.specs.Meaning.Placing.{columns_for}
@@ -26,6 +26,7 @@ use Rattle.tables.proofs.Flats.{in_flat, in_columns, table_flat}
 use Rattle.tables.proofs.PieceWords.{piece_rows, piece_runs_lem}
 use Rattle.tables.proofs.FreeTest.{Shares, test_by_column, drop_n_at}
 use Rattle.laws.proofs.First.{first_of, none_of}
+use Rattle.walk.specs.declared.Spot.TheVariants.{Found, None}
 use Rattle.walk.specs.Free.{Frame, FreeTo, NoHeight, Searched}
 
 module _ {f l h r : List ℕ} {W N n p : ℕ} (o : List ℕ) (t R g : ℕ) (small : g ≤ 400) (laid : Laid f l h W N n) (stands : Stands (piece_runs o t R g) r p) where
@@ -92,7 +93,7 @@ module _ {f l h r : List ℕ} {W N n p : ℕ} (o : List ℕ) (t R g : ℕ) (smal
   none_in : (c : ℕ) → c + wide ≤ N → NoHeight f l h r N W p tall c → first_from (at_height_lem c) 0 (W + 1 - tall) ≡ None
   none_in c fits no-height = none_of (at_height_lem c) 0 _ (λ y a b. none_at c y fits (no-height.none y (omega arith)))
 
-  pub found_is : {c y : ℕ} → Searched f l h r N W p wide tall (Some (c, y)) →
+  pub found_is : {c y : ℕ} → Searched f l h r N W p wide tall (Found c y) →
       first_free W R N g held o t ≡ Some (position t c y)
   unfolding first_free
   found_is {c} {y} spot =

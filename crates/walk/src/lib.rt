@@ -8,6 +8,13 @@ ghost use Rattle.walk.specs.Steps.{WalkedColumn, WalkedTurn};
 
 use tries::Tried;
 
+// What the search of one turn answers: an enum of its own, since document 01 names its cases.
+#[derive(Clone, Copy)]
+pub enum Spot {
+    Found(usize, u16),
+    None,
+}
+
 // What the walk of a column answers: its least free height, and the tries.
 #[derive(Clone, Copy)]
 pub struct ColumnWalk {
@@ -18,7 +25,7 @@ pub struct ColumnWalk {
 // What the walk of a turn answers: its least free position, and the tries.
 #[derive(Clone, Copy)]
 pub struct TurnWalk {
-    pub spot: Option<(usize, u16)>,
+    pub spot: Spot,
     pub tries: u32,
 }
 
@@ -136,10 +143,10 @@ pub fn walk_column(
 
 // The walk of a turn in which no column has room.
 fn untried() -> TurnWalk
-    ensures { result ≡ record { spot = None; tries = 0 } }
+    ensures { result ≡ record { spot = Spot.None; tries = 0 } }
 {
     TurnWalk {
-        spot: None,
+        spot: Spot::None,
         tries: 0,
     }
 }
@@ -167,7 +174,7 @@ pub fn walk_turn(first: &[u16], lows: &[u16], highs: &[u16], runs: &[u16], s: Se
         match at {
             Some(y) => {
                 return TurnWalk {
-                    spot: Some((c, y)),
+                    spot: Spot::Found(c, y),
                     tries,
                 };
             }
@@ -177,7 +184,7 @@ pub fn walk_turn(first: &[u16], lows: &[u16], highs: &[u16], runs: &[u16], s: Se
         }
     }
     TurnWalk {
-        spot: None,
+        spot: Spot::None,
         tries,
     }
 }

@@ -33,10 +33,10 @@ returns-in_default c = let pre = c.requires.fact_1 in let fits = stands c.put_tu
 }
 
 pub rank-requires : goal.rank-requires
-rank-requires c = let pre = c.requires.fact_1 in let fits = stands c.put_turn-k.ensures c.if-work-k.false in let extent = c.extent_of-e.ensures in spot_fits _ _ _ _ pre.least pre.gap pre.table fits extent.0 c.columns_for-wide.ensures extent.1 pre.width pre.columns c.search-found.ensures c.in-Some.is
+rank-requires c = let pre = c.requires.fact_1 in let fits = stands c.put_turn-k.ensures c.if-work-k.false in let extent = c.extent_of-e.ensures in spot_fits _ _ _ _ pre.least pre.gap pre.table fits extent.0 c.columns_for-wide.ensures extent.1 pre.width pre.columns c.search-found.ensures c.in-Found.is
 
 pub returns : goal.returns
 returns c = let pre = c.requires.fact_1 in let fits = stands c.put_turn-k.ensures c.if-work-k.false in let extent = c.extent_of-e.ensures in record {
-  fact_1 = turn_tried _ _ _ _ pre.least pre.gap pre.table fits extent.0 c.columns_for-wide.ensures extent.1 _ _ _ c.search-found.result c.search-found.ensures (rw c.in-Some.is (ap Some c.rank.ensures));
+  fact_1 = turn_tried _ _ _ _ pre.least pre.gap pre.table fits extent.0 c.columns_for-wide.ensures extent.1 _ _ _ c.search-found.result c.search-found.ensures (rw c.in-Found.is (ap Some c.rank.ensures));
   fact_2 = put_kept c.put_turn-k.ensures;
 }

@@ -61,7 +61,7 @@ open_answer W R N g words =
     let no = figures_no W R N g in
     ask (eqb no 0) (Err (refusal no 0)) λ _.
     ask (lengthb N words) (Err (refusal 4 0)) λ _.
-    (Ok tt)
+    Ok tt
 
 -- cover
 
@@ -124,7 +124,7 @@ commit_on W R N g Q held o p words =
     ask (q12b o (2 ^ p.turn) R g words) (Err (refusal 12 1)) λ _.
     ask (q18b W R N g held o p) (Err (refusal 18 0)) λ _.
     ask (q14b W R g Q held o p) (Err (refusal 14 1)) λ _.
-    (Ok tt)
+    Ok tt
 
 unfoldable pub commit_answer : List ℕ → List ℕ → Position → ℕ → Result Unit Refusal
 commit_answer s o p words =

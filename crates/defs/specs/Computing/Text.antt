@@ -1,6 +1,7 @@
 -- What program `lay` prints, as bytes. Assumes nothing.
 use Rattle.std.specs.Prelude.{cond, List, [], ◌∷◌, ◌++◌, ℕ, zero, suc, ◌+◌, ◌*◌, ◌/◌, ◌%◌, ltb, Ok, Err}
 use Prim.Native.String.{String}
+use Rattle.defs.specs.declared.Fate.TheVariants.{Placed, Refused}
 use Rattle.defs.specs.declared.Entry.{Entry}
 use Rattle.defs.specs.declared.Totals.{Totals}
 use Rattle.defs.specs.Meaning.Limits.{leading_words, record_words, most_pieces}
@@ -38,8 +39,8 @@ unfoldable pub entry_line : Entry → List ℕ
 entry_line e =
     decimal e.ordinal ++
     elim e.fate [
-      | Ok p ↦ line " placed" (p.turn ∷ p.column ∷ p.height ∷ [])
-      | Err n ↦ line " refused" (n ∷ [])
+      | Placed p ↦ line " placed" (p.turn ∷ p.column ∷ p.height ∷ [])
+      | Refused n ↦ line " refused" (n ∷ [])
     ]
 
 unfoldable pub entry_lines : List Entry → List ℕ

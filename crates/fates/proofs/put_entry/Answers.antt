@@ -1,8 +1,8 @@
 -- Four words for each case of a fate. Assumes nothing.
 use Rattle.fates.proofs.put_entry.Goals as goal
 
-pub returns-in-Ok : goal.returns-in-Ok
-returns-in-Ok c = rw c.in-Ok.is c.put_four.ensures
+pub returns-in-Placed : goal.returns-in-Placed
+returns-in-Placed c = rw c.in-Placed.is c.put_four.ensures
 
-pub returns-in-Err : goal.returns-in-Err
-returns-in-Err c = rw c.in-Err.is c.put_four-in-Err.ensures
+pub returns-in-Refused : goal.returns-in-Refused
+returns-in-Refused c = rw c.in-Refused.is c.put_four-in-Refused.ensures
