@@ -7,7 +7,6 @@ ghost use Rattle.bytecalls.specs.Steps.{LaidBytes};
 
 use defs::{Refusal, Totals};
 
-
 // Words of the entries of 200 pieces.
 const OUTPUT_ROOM: usize = 800;
 
@@ -33,7 +32,13 @@ fn open_words(
 }
 
 // The open call.
-pub fn open_bytes(width: u16, resolution: u16, columns: u16, gap: u16, strip: &mut [u8]) -> Result<(), Refusal>
+pub fn open_bytes(
+    width: u16,
+    resolution: u16,
+    columns: u16,
+    gap: u16,
+    strip: &mut [u8],
+) -> Result<(), Refusal>
     ensures { OpenBytesStep width resolution columns gap strip.old result strip.new }
 {
     let mut words = [0u16; byteput::STRIP_ROOM];
@@ -67,7 +72,13 @@ fn lay_words(
 }
 
 // Lends words for strip and output.
-fn lay_with(sheet: &[u8], gap: u16, strip: &mut [u8], output: &mut [u8], work: &mut [u16]) -> Result<Totals, Refusal>
+fn lay_with(
+    sheet: &[u8],
+    gap: u16,
+    strip: &mut [u8],
+    output: &mut [u8],
+    work: &mut [u16],
+) -> Result<Totals, Refusal>
     ensures { LaidBytes sheet.now gap strip.old output.old (length work.old) result strip.new output.new }
 {
     let mut words = [0u16; byteput::STRIP_ROOM];
@@ -86,7 +97,13 @@ fn lay_with(sheet: &[u8], gap: u16, strip: &mut [u8], output: &mut [u8], work: &
 }
 
 // Lends a small work buffer.
-fn lay_small(sheet: &[u8], gap: u16, strip: &mut [u8], output: &mut [u8], room: usize) -> Result<Totals, Refusal>
+fn lay_small(
+    sheet: &[u8],
+    gap: u16,
+    strip: &mut [u8],
+    output: &mut [u8],
+    room: usize,
+) -> Result<Totals, Refusal>
     requires { room ≤ 9000 }
     ensures { LaidBytes sheet.now gap strip.old output.old (min room most_work) result strip.new output.new }
 {
@@ -95,7 +112,13 @@ fn lay_small(sheet: &[u8], gap: u16, strip: &mut [u8], output: &mut [u8], room: 
 }
 
 // Lends as much of a work buffer as is used of one.
-fn lay_large(sheet: &[u8], gap: u16, strip: &mut [u8], output: &mut [u8], room: usize) -> Result<Totals, Refusal>
+fn lay_large(
+    sheet: &[u8],
+    gap: u16,
+    strip: &mut [u8],
+    output: &mut [u8],
+    room: usize,
+) -> Result<Totals, Refusal>
     ensures { LaidBytes sheet.now gap strip.old output.old (min room most_work) result strip.new output.new }
 {
     let mut work = [0u16; byteput::MOST_WORK];

@@ -160,7 +160,12 @@ pub fn ask_bytes(strip: &[u8], outline: &[u8], mask: u16, work: &mut [u8]) -> Pl
 }
 
 // The commit call.
-pub fn commit_bytes(strip: &mut [u8], outline: &[u8], p: Position, work: &mut [u8]) -> Result<(), Refusal>
+pub fn commit_bytes(
+    strip: &mut [u8],
+    outline: &[u8],
+    p: Position,
+    work: &mut [u8],
+) -> Result<(), Refusal>
     ensures { CommitBytesStep strip.old outline.now p work.old result strip.new work.new }
 {
     let mut words = [0u16; STRIP_ROOM];

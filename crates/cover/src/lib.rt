@@ -59,7 +59,14 @@ fn write_runs(o: &[u16], f: Frame, r: u16, g: u16, w: u16, k: usize, kept: &[u16
 
 // Questions 11 and 12 of an outline that passes 7 to 10 in the frame's turn; then its runs. Up to KEPT_RUNS runs are kept while they are counted,
 // since nothing may be written before 12 is answered.
-fn cover_runs(o: &[u16], f: Frame, e: Extent, r: u16, g: u16, out: &mut [u16]) -> Result<u32, Refusal>
+fn cover_runs(
+    o: &[u16],
+    f: Frame,
+    e: Extent,
+    r: u16,
+    g: u16,
+    out: &mut [u16],
+) -> Result<u32, Refusal>
     requires fact_1 { CoverRuns o.now f.turn r g }
     requires fact_2 { FrameOf o.now f }
     requires fact_3 { (e.w ≡ extent_x o.now f.turn) × (e.h ≡ extent_y o.now f.turn) }

@@ -8,7 +8,6 @@ ghost use Rattle.defs.specs.Computing.Sheets.{piece_of, piece_records, sheet_pie
 ghost use Rattle.words.specs.Put.{Put};
 ghost use Rattle.cutlist.specs.Pieces.{PieceAt, VertexEnds, AllEnd, PieceFits, ChainEnds, PiecesRoom, PieceCounted};
 
-
 // The number of words of the piece of piece record `at`.
 fn piece_words(sheet: &[u8], v: usize, at: usize) -> usize
     requires fact_1 { PieceAt sheet.now v at }

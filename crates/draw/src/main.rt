@@ -5,7 +5,13 @@ use defs::{Refusal, Totals};
 use std::io;
 
 // The lay call, of which only the answer is used here.
-fn lay(sheet: &[u8], gap: u16, strip: &mut [u16], entries: &mut [u16], work: &mut [u16]) -> Result<Totals, Refusal> {
+fn lay(
+    sheet: &[u8],
+    gap: u16,
+    strip: &mut [u16],
+    entries: &mut [u16],
+    work: &mut [u16],
+) -> Result<Totals, Refusal> {
     laying::lay(sheet, gap, strip, entries, work)
 }
 

@@ -29,7 +29,13 @@ fn lay_asked(
 }
 
 // All questions, and the job. Leaves words in the work buffer.
-fn lay_sheet(sheet: &[u8], gap: u16, strip: &mut [u16], out: &mut [u16], work: &mut [u16]) -> Result<Totals, Refusal>
+fn lay_sheet(
+    sheet: &[u8],
+    gap: u16,
+    strip: &mut [u16],
+    out: &mut [u16],
+    work: &mut [u16],
+) -> Result<Totals, Refusal>
     ensures { LayAnswered sheet.now gap strip.old out.old (length work.old) result strip.new out.new }
 {
     let count = reads::ask(sheet, Some((gap, strip.len())))?;
@@ -37,7 +43,13 @@ fn lay_sheet(sheet: &[u8], gap: u16, strip: &mut [u16], out: &mut [u16], work: &
 }
 
 // The lay call.
-pub fn lay(sheet: &[u8], gap: u16, strip: &mut [u16], out: &mut [u16], work: &mut [u16]) -> Result<Totals, Refusal>
+pub fn lay(
+    sheet: &[u8],
+    gap: u16,
+    strip: &mut [u16],
+    out: &mut [u16],
+    work: &mut [u16],
+) -> Result<Totals, Refusal>
     ensures { LayStep sheet.now gap strip.old out.old work.old result strip.new out.new work.new }
 {
     let a = lay_sheet(sheet, gap, strip, out, work);

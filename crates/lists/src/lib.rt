@@ -63,7 +63,10 @@ pub fn first_no(list: &[u16]) -> Result<usize, Refusal>
     while 0 < left {
         let n = piece_no(list, a);
         if n != 0 {
-            return Err(Refusal { number: n, ordinal: k });
+            return Err(Refusal {
+                number: n,
+                ordinal: k,
+            });
         }
         let m = list[a] as usize;
         a += 2 + 2 * m;

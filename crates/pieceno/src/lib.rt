@@ -9,7 +9,6 @@ ghost use Rattle.pieceno.specs.Refused.{Asked};
 
 use defs::Refusal;
 
-
 // The first of questions 7 to 11 that gets "no" for piece record `at`, else 0. The outline is lent from a local.
 fn piece_no(sheet: &[u8], v: usize, at: usize) -> u16
     requires fact_1 { PieceAt sheet.now v at }
@@ -40,7 +39,10 @@ pub fn first_no(sheet: &[u8], v: usize) -> Result<(), Refusal>
     while 0 < at {
         let n = piece_no(sheet, v, at);
         if n != 0 {
-            return Err(Refusal { number: n, ordinal: k });
+            return Err(Refusal {
+                number: n,
+                ordinal: k,
+            });
         }
         at = reader::visit(sheet, v + at).next as usize;
         left -= 1;

@@ -52,13 +52,7 @@ fn better(a: Option<Ranked>, b: Option<Ranked>) -> Option<Ranked>
         None => a,
         Some(q) => match a {
             None => Some(q),
-            Some(p) => {
-                if beats(q, p) {
-                    Some(q)
-                } else {
-                    Some(p)
-                }
-            }
+            Some(p) => { if beats(q, p) { Some(q) } else { Some(p) } }
         },
     }
 }

@@ -18,7 +18,14 @@ fn count_fits(list: &[u16]) -> bool
 }
 
 // Questions 2 and 15 of a list of v vertices that passes the others; then its sheet.
-fn write_sheet(w: u16, r: u16, n: u16, list: &[u16], v: usize, out: &mut [u8]) -> Result<u32, Refusal>
+fn write_sheet(
+    w: u16,
+    r: u16,
+    n: u16,
+    list: &[u16],
+    v: usize,
+    out: &mut [u8],
+) -> Result<u32, Refusal>
     requires { Passed w r n list.now v }
     ensures { WriteStep w r n list.now out.old result out.new }
 {
