@@ -8,7 +8,7 @@ use Prim.Native.Nat.{ℕ, ◌+◌, ◌-◌, ◌*◌, ◌/◌, ◌≤◌, ◌<◌
 use native.Mathlib.Omega.{arith}
 use lib.ListN.{length, take, drop}
 use lib.Seq.{sets, sets-eq, take_at}
-use Rattle.std.specs.Prelude.{Option, Some}
+use Rattle.std.specs.Prelude.{Option, Some, None}
 use Rattle.std.proofs.lemmas.Option.{same_Some, none-some}
 use Rattle.ranks.specs.declared.Ranked.{Ranked}
 use Rattle.defs.specs.declared.Position.{Position}
@@ -32,7 +32,7 @@ use Rattle.laws.proofs.First.{first_at}
 use Rattle.tables.proofs.Flats.{table_flat}
 use Rattle.tables.proofs.Copies.{NoneBefore, not_free}
 use Rattle.walk.specs.declared.Spot.{Spot}
-use Rattle.walk.specs.declared.Spot.TheVariants.{Found, None}
+use Rattle.walk.specs.declared.Spot.TheVariants.{Found, None as NoSpot}
 use Rattle.walk.specs.declared.TurnWalk.{TurnWalk}
 use Rattle.walk.specs.Free.{Frame, NoHeight}
 use Rattle.walk.proofs.Searches.{frame_of, free_is, found_is}
@@ -146,7 +146,7 @@ module _
   unfolding right_edge top
   finds limit (Found c y) e =
       record { is = sym (found_is o t R g small laid stood e); ranks = record { right = refl; top = refl } }
-  finds limit None e = after_limit limit e
+  finds limit NoSpot e = after_limit limit e
 
   -- the walk counts the tries of the definition's walk
   tries : (way : Way) (n : ℕ) → StepsBy f l h r N W p (columns_for (extent_x o t) R) (extent_y o t) way n →

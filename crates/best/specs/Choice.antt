@@ -1,5 +1,5 @@
 -- What is chosen among turns. Assumes nothing.
-use Rattle.std.specs.Prelude.{◌≡◌, true, List, ℕ, ◌+◌, ◌*◌, ◌≤◌, ◌<◌, length, Option, Some}
+use Rattle.std.specs.Prelude.{◌≡◌, true, List, ℕ, ◌+◌, ◌*◌, ◌≤◌, ◌<◌, length, Option, Some, None}
 use Rattle.defs.specs.declared.Position.{Position}
 use Rattle.defs.specs.Meaning.Turn.{extent_x, extent_y}
 use Rattle.defs.specs.Meaning.Placing.{columns_for, right_edge, top}
@@ -11,7 +11,7 @@ use Rattle.outline.specs.Vertex.{Lent, BoundsOf}
 use Rattle.tables.specs.Flat.{Laid}
 use Rattle.tables.specs.Piece.{Stands}
 use Rattle.walk.specs.declared.Spot.{Spot}
-use Rattle.walk.specs.declared.Spot.TheVariants.{Found, None}
+use Rattle.walk.specs.declared.Spot.TheVariants.{Found, None as NoSpot}
 use Rattle.search.specs.declared.Way.{Way}
 use Rattle.search.specs.declared.Way.TheVariants.{Walk as ByWalk, Round}
 use Rattle.ranks.specs.declared.Ranked.{Ranked}
@@ -37,7 +37,7 @@ ranked_at c y t w h R = record { at = record { turn = t; column = c; height = y 
 
 abbrev pub ranked : Spot → ℕ → ℕ → ℕ → ℕ → Option Ranked
 ranked (Found c y) t w h R = Some (ranked_at c y t w h R)
-ranked None t w h R = None
+ranked NoSpot t w h R = None
 
 -- a choice is what the definition finds
 pub record Finds (R : ℕ) (o : List ℕ) (x : Option Position) (c : Option Ranked) : Type 0 where

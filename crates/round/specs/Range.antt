@@ -3,7 +3,7 @@
 use Rattle.std.specs.Prelude.{List, ℕ, ◌+◌, ◌≤◌, ◌<◌}
 use Rattle.walk.specs.Free.{Least, NoHeight}
 use Rattle.walk.specs.declared.Spot.{Spot}
-use Rattle.walk.specs.declared.Spot.TheVariants.{Found, None}
+use Rattle.walk.specs.declared.Spot.TheVariants.{Found, None as NoSpot}
 
 -- the least column of a range with a free height, and the least in it
 pub record FirstIn (f l h r : List ℕ) (N W p w t from to c y : ℕ) : Type 0 where
@@ -15,4 +15,4 @@ pub record FirstIn (f l h r : List ℕ) (N W p w t from to c y : ℕ) : Type 0 w
 
 abbrev pub SearchedIn : (f l h r : List ℕ) (N W p w t from to : ℕ) → Spot → Type 0
 SearchedIn f l h r N W p w t from to (Found c y) = FirstIn f l h r N W p w t from to c y
-SearchedIn f l h r N W p w t from to None = (c : ℕ) → from ≤ c → c < to → c + w ≤ N → NoHeight f l h r N W p t c
+SearchedIn f l h r N W p w t from to NoSpot = (c : ℕ) → from ≤ c → c < to → c + w ≤ N → NoHeight f l h r N W p t c

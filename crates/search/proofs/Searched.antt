@@ -6,7 +6,7 @@ use Prim.Native.Nat.{ℕ}
 use native.Mathlib.Omega.{arith}
 use Rattle.geom.proofs.Strip.{lt_or_le}
 use Rattle.walk.specs.declared.Spot.{Spot}
-use Rattle.walk.specs.declared.Spot.TheVariants.{Found, None}
+use Rattle.walk.specs.declared.Spot.TheVariants.{Found, None as NoSpot}
 use Rattle.walk.specs.declared.TurnWalk.{TurnWalk}
 use Rattle.walk.specs.Free.{Searched}
 use Rattle.walk.specs.Steps.{WalkedTurn}
@@ -18,7 +18,7 @@ use Rattle.search.specs.Searched.{FullBefore, SearchedTo, Looks}
 module _ (f l h r : List ℕ) (N W p w t end : ℕ) where
   walked_to : (s : Spot) → Searched f l h r N W p w t s → SearchedTo f l h r N W p w t end s
   walked_to (Found c y) e = e
-  walked_to None e = λ c _. e c
+  walked_to NoSpot e = λ c _. e c
 
   rounded_to : {from : ℕ} (s : Spot) → FullBefore f l h r N W p w t from → SearchedIn f l h r N W p w t from end s →
       SearchedTo f l h r N W p w t end s
@@ -29,7 +29,7 @@ module _ (f l h r : List ℕ) (N W p w t end : ℕ) where
         least =
             λ b u. ⊎_elim (λ before. full.none b before (omega (arith, e.fits))) (λ after. e.least b after u) (lt_or_le b from);
       }
-  rounded_to {from} None full e =
+  rounded_to {from} NoSpot full e =
       λ c u fits. ⊎_elim (λ before. full.none c before fits) (λ after. e c after u fits) (lt_or_le c from)
 
   pub walked_looks : (a : TurnWalk) → WalkedTurn f l h r N W p w t a → Looks f l h r N W p w t end ByWalk a

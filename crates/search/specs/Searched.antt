@@ -4,7 +4,7 @@ use Rattle.walk.specs.Free.{FirstSpot, NoHeight}
 use Rattle.walk.specs.Steps.{TurnSteps}
 use Rattle.walk.specs.declared.TurnWalk.{TurnWalk}
 use Rattle.walk.specs.declared.Spot.{Spot}
-use Rattle.walk.specs.declared.Spot.TheVariants.{Found, None}
+use Rattle.walk.specs.declared.Spot.TheVariants.{Found, None as NoSpot}
 use Rattle.search.specs.declared.Way.{Way}
 use Rattle.search.specs.declared.Way.TheVariants.{Walk as ByWalk, Round}
 
@@ -15,7 +15,7 @@ pub record FullBefore (f l h r : List ℕ) (N W p w t from : ℕ) : Type 0 where
 -- the first free position; if none was found, none is in a column before `end`
 abbrev pub SearchedTo : (f l h r : List ℕ) (N W p w t end : ℕ) → Spot → Type 0
 SearchedTo f l h r N W p w t end (Found c y) = FirstSpot f l h r N W p w t c y
-SearchedTo f l h r N W p w t end None = (c : ℕ) → c < end → c + w ≤ N → NoHeight f l h r N W p t c
+SearchedTo f l h r N W p w t end NoSpot = (c : ℕ) → c < end → c + w ≤ N → NoHeight f l h r N W p t c
 
 -- the walk counts its steps
 abbrev pub StepsBy : (f l h r : List ℕ) (N W p w t : ℕ) → Way → ℕ → Type 0

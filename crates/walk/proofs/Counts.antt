@@ -8,7 +8,7 @@ use native.Mathlib.Omega.{arith}
 use Rattle.geom.proofs.Strip.{lt_or_le}
 use Rattle.tables.specs.Piece.{run_column, run_low, run_high}
 use Rattle.tries.specs.Tries.{Lands}
-use Rattle.walk.specs.declared.Spot.TheVariants.{None}
+use Rattle.walk.specs.declared.Spot.TheVariants.{None as NoSpot}
 use Rattle.walk.specs.declared.TurnWalk.{TurnWalk}
 use Rattle.walk.specs.Free.{Before, Least, NoHeight}
 use Rattle.walk.specs.Steps.{Steps, past, free, jump, TurnSteps, off, found, next, WalkedTurn}
@@ -95,11 +95,11 @@ turn_start f l h r N W p w t =
     }
 
 -- no column has a try where the piece is higher than the strip, or wider
-pub none_walked : {f l h r : List ℕ} {N W p w t : ℕ} {a : TurnWalk} → (W < t) ⊎ (N < w) → a ≡ record { spot = None; tries = 0 } →
+pub none_walked : {f l h r : List ℕ} {N W p w t : ℕ} {a : TurnWalk} → (W < t) ⊎ (N < w) → a ≡ record { spot = NoSpot; tries = 0 } →
     WalkedTurn f l h r N W p w t a
 none_walked {f} {l} {h} {r} {N} {W} {p} {w} {t} u e = rw e (go u)
   where
-    go : (W < t) ⊎ (N < w) → WalkedTurn f l h r N W p w t (record { spot = None; tries = 0 })
+    go : (W < t) ⊎ (N < w) → WalkedTurn f l h r N W p w t (record { spot = NoSpot; tries = 0 })
     go =
         ⊎_elim
         (λ u.

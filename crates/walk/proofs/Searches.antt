@@ -10,7 +10,7 @@ use Prim.Native.Nat.{ℕ, ◌+◌, ◌-◌, ◌≤◌, ◌<◌}
 use native.Mathlib.Omega.{arith}
 use lib.ListN.{get_or}
 use borrow.Author.Tests.{not-true}
-use Rattle.std.specs.Prelude.{Option, Some}
+use Rattle.std.specs.Prelude.{Option, Some, None}
 use Rattle.defs.specs.declared.Position.{Position}
 use Rattle.defs.specs.Meaning.Turn.{extent_x, extent_y}
 use Rattle.defs.specs.Meaning.Placing.{columns_for}
@@ -26,7 +26,7 @@ use Rattle.tables.proofs.Flats.{in_flat, in_columns, table_flat}
 use Rattle.tables.proofs.PieceWords.{piece_rows, piece_runs_lem}
 use Rattle.tables.proofs.FreeTest.{Shares, test_by_column, drop_n_at}
 use Rattle.laws.proofs.First.{first_of, none_of}
-use Rattle.walk.specs.declared.Spot.TheVariants.{Found, None}
+use Rattle.walk.specs.declared.Spot.TheVariants.{Found, None as NoSpot}
 use Rattle.walk.specs.Free.{Frame, FreeTo, NoHeight, Searched}
 
 module _ {f l h r : List ℕ} {W N n p : ℕ} (o : List ℕ) (t R g : ℕ) (small : g ≤ 400) (laid : Laid f l h W N n) (stands : Stands (piece_runs o t R g) r p) where
@@ -114,6 +114,6 @@ module _ {f l h r : List ℕ} {W N n p : ℕ} (o : List ℕ) (t R g : ℕ) (smal
         before = λ b a u. none_in b (omega (arith, spot.fits)) (spot.least b u);
       })
 
-  pub none_is : Searched f l h r N W p wide tall None → first_free W R N g held o t ≡ None
+  pub none_is : Searched f l h r N W p wide tall NoSpot → first_free W R N g held o t ≡ None
   unfolding first_free
   none_is no-spot = none_of _ 0 _ (λ c a u. none_in c (omega arith) (no-spot c (omega arith)))

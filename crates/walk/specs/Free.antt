@@ -1,10 +1,10 @@
 -- A table laid flat, a piece's runs, and the columns and heights at which the piece is free.
 -- Assumes nothing.
-use Rattle.std.specs.Prelude.{List, ℕ, ◌+◌, ◌≤◌, ◌<◌, Option, Some}
+use Rattle.std.specs.Prelude.{List, ℕ, ◌+◌, ◌≤◌, ◌<◌, Option, Some, None}
 use Rattle.tables.specs.Flat.{Occupied, Laid}
 use Rattle.tables.specs.Piece.{run_column, run_low, run_high, PieceRuns}
 use Rattle.walk.specs.declared.Spot.{Spot}
-use Rattle.walk.specs.declared.Spot.TheVariants.{Found, None}
+use Rattle.walk.specs.declared.Spot.TheVariants.{Found, None as NoSpot}
 
 -- a table of N columns and width W laid flat, and p runs of a piece, which is w columns wide and t rows tall; its runs may go further,
 -- at most 400 rows up
@@ -61,4 +61,4 @@ pub record FirstSpot (f l h r : List ℕ) (N W p w t c y : ℕ) : Type 0 where
 
 abbrev pub Searched : (f l h r : List ℕ) (N W p w t : ℕ) → Spot → Type 0
 Searched f l h r N W p w t (Found c y) = FirstSpot f l h r N W p w t c y
-Searched f l h r N W p w t None = (c : ℕ) → c + w ≤ N → NoHeight f l h r N W p t c
+Searched f l h r N W p w t NoSpot = (c : ℕ) → c + w ≤ N → NoHeight f l h r N W p t c
