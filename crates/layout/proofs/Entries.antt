@@ -1,18 +1,19 @@
--- The entries of a job: ordinals 1, 2, 3, and no refused piece has number 0, so that four words tell the line.
+-- The entries of a job: ordinals 1, 2, 3, and no refused piece has number 0, so that four words tell the fate.
 -- Assumes nothing.
 use mathlib.Core.Path.{◌≡◌, refl, sym, ap, ◌∙◌}
-use mathlib.Core.Bool.{Bool, true, false}
+use mathlib.Core.Bool.{Bool, true, false, cond}
 use mathlib.Core.List.{List, [], ◌∷◌, ◌++◌, append_assoc}
 use Prim.Native.Nat.{ℕ, ◌+◌, ◌*◌, ◌≤◌}
 use native.Mathlib.Omega.{arith}
 use lib.Dec.{eqb}
 use lib.ListN.{length, get_or, drop, length-append}
 use lib.Seq.{get_or-drop, drop-drop}
-use borrow.Author.Tests.{eqb-false}
+use borrow.Author.Tests.{eqb-false, ne_eqb}
 use Rattle.std.specs.Prelude.{Option, Some, None, Result, Ok, Err}
 use Rattle.defs.specs.declared.Refusal.{Refusal}
 use Rattle.defs.specs.declared.Position.{Position}
 use Rattle.defs.specs.declared.Entry.{Entry}
+use Rattle.defs.specs.declared.Fate.TheVariants.{Placed, Refused}
 use Rattle.defs.specs.Answer.{fate_words}
 use Rattle.defs.specs.Meaning.Sheet.{Piece}
 use Rattle.defs.specs.Computing.Test.{ask}
@@ -20,11 +21,9 @@ use Rattle.defs.specs.Computing.Cells.{Rows}
 use Rattle.defs.specs.Computing.Search.{best_below}
 use Rattle.defs.specs.Computing.Calls.{refusal, q9b, q12b, q14b, outline_no, choose, place_on}
 use Rattle.defs.specs.Computing.Lay.{fate_of, held_after, entries_from, entries_words}
-use Rattle.defs.specs.Computing.Text.{decimal, entry_line, entry_lines}
+use Rattle.defs.specs.Computing.Text.{entry_lines}
 use Rattle.laws.proofs.Entries.{length-entries_from, length-entries_words}
-use Rattle.layoutlines.specs.Line.{four_line}
-use Rattle.layout.specs.Lines.{four_lines}
-use Rattle.layoutlines.proofs.Line.{fate_placed, fate_refused}
+use Rattle.layout.specs.Lines.{fate_at, entries_lines}
 
 -- a refused piece has a number
 abbrev Numbered : Result Position Refusal → Type 0
@@ -38,7 +37,7 @@ asked_numbered false n rest h r = h refl
 
 choose_numbered : (W R Q : ℕ) (held : List (List Rows)) (o : List ℕ) (best : Option Position) → Numbered (choose W R 0 Q held o best)
 unfolding choose
-choose_numbered W R Q held o None = λ e. omega arith
+choose_numbered W R Q held o none = λ e. omega arith
 choose_numbered W R Q held o (Some p) = asked_numbered (q14b W R 0 Q held o p) 14 _ (λ _ e. omega arith) tt
 
 place_numbered : (W R N Q : ℕ) (held : List (List Rows)) (o : List ℕ) (mask words : ℕ) → Numbered (place_on W R N 0 Q held o mask words)
@@ -62,37 +61,37 @@ in_order W R N Q words i held (p ∷ ps) =
     an_entry a (place_numbered W R N Q held p.outline p.mask words)
     (in_order W R N Q words (i + 1) (held_after W R 0 held p.outline a) ps)
 
--- the line of one entry, from its words
+-- the fate of one entry, from its words
 abbrev word : Result Position Refusal → List ℕ → ℕ → ℕ
 word a more i = get_or (fate_words (fate_of a) ++ more) i 0
 
-four_line_lem : (k : ℕ) (more : List ℕ) (a : Result Position Refusal) → Numbered a →
-    four_line k (word a more 0) (word a more 1) (word a more 2) (word a more 3) ≡ entry_line (record { ordinal = k; fate = fate_of a })
-unfolding four_line entry_line
-four_line_lem k more (Ok p) n = ap (λ (l : List ℕ). decimal k ++ l) (sym (fate_placed p.turn p.column p.height refl))
-four_line_lem k more (Err r) n = ap (λ (l : List ℕ). decimal k ++ l) (sym (fate_refused r.number 0 0 0 n))
+fate_said : (a : Result Position Refusal) (more : List ℕ) → Numbered a →
+    cond (eqb (word a more 0) 0) (Placed (record { turn = word a more 1; column = word a more 2; height = word a more 3 })) (Refused (word a more 0)) ≡
+    fate_of a
+fate_said (Ok p) more n = refl
+fate_said (Err r) more n = rw (ne_eqb r.number 0 n)
 
-entry_line_lem : (k : ℕ) (ws more : List ℕ) (j : ℕ) (a : Result Position Refusal) → Numbered a → drop j ws ≡ fate_words (fate_of a) ++ more →
-    four_line k (get_or ws j 0) (get_or ws (j + 1) 0) (get_or ws (j + 2) 0) (get_or ws (j + 3) 0) ≡ entry_line (record { ordinal = k; fate = fate_of a })
-entry_line_lem k ws more j a n e =
+fate_is : (ws more : List ℕ) (j : ℕ) (a : Result Position Refusal) → Numbered a → drop j ws ≡ fate_words (fate_of a) ++ more → fate_at ws j ≡ fate_of a
+unfolding fate_at
+fate_is ws more j a n e =
     let at : (i : ℕ) → get_or ws (j + i) 0 ≡ word a more i = λ i. sym (get_or-drop j ws i 0) ∙ ap (λ (l : List ℕ). get_or l i 0) e in
     let first : get_or ws j 0 ≡ word a more 0 = ap (λ (i : ℕ). get_or ws i 0) (omega arith) ∙ at 0 in
-    rw (first, at 1, at 2, at 3) (four_line_lem k more a n)
+    rw (first, at 1, at 2, at 3) (fate_said a more n)
 
 past : (a : Result Position Refusal) (more : List ℕ) → drop 4 (fate_words (fate_of a) ++ more) ≡ more
 past (Ok p) more = refl
 past (Err r) more = refl
 
 lines_are : {i : ℕ} {es : List Entry} (ws rest : List ℕ) → InOrder i es → drop (4 * i) ws ≡ entries_words es ++ rest →
-    four_lines ws i (length es) ≡ entry_lines es
-unfolding four_lines entry_lines entries_words
+    entries_lines ws i (length es) ≡ entry_lines es
+unfolding entries_lines entry_lines entries_words
 lines_are ws rest no_entry e = refl
 lines_are {i} ws rest (an_entry {es = es} a n o) e =
     let f = e ∙ append_assoc (fate_words (fate_of a)) (entries_words es) rest in
     let four : 4 * (i + 1) ≡ 4 * i + 4 = omega arith in
     let next : drop (4 * (i + 1)) ws ≡ entries_words es ++ rest =
     ap (λ (n : ℕ). drop n ws) four ∙ sym (drop-drop 4 (4 * i) ws) ∙ ap (drop 4) f ∙ past a (entries_words es ++ rest) in
-    rw (entry_line_lem (i + 1) ws (entries_words es ++ rest) (4 * i) a n f, lines_are ws rest o next)
+    rw (fate_is ws (entries_words es ++ rest) (4 * i) a n f, lines_are ws rest o next)
 
 module _ (W R N Q words : ℕ) (held : List (List Rows)) (ps : List Piece) (ws rest : List ℕ)
     (e : ws ≡ entries_words (entries_from W R N 0 Q words 1 held ps) ++ rest) where
@@ -101,7 +100,7 @@ module _ (W R N Q words : ℕ) (held : List (List Rows)) (ps : List Piece) (ws r
       let es = entries_from W R N 0 Q words 1 held ps in
       omega (arith, ap length e, length-append (entries_words es) rest, length-entries_words es, length-entries_from W R N 0 Q words 1 held ps)
 
-  pub job_lines : four_lines ws 0 (length ps) ≡ entry_lines (entries_from W R N 0 Q words 1 held ps)
+  pub job_lines : entries_lines ws 0 (length ps) ≡ entry_lines (entries_from W R N 0 Q words 1 held ps)
   job_lines =
-      ap (four_lines ws 0) (sym (length-entries_from W R N 0 Q words 1 held ps)) ∙
+      ap (entries_lines ws 0) (sym (length-entries_from W R N 0 Q words 1 held ps)) ∙
       lines_are ws rest (in_order W R N Q words 0 held ps) e

@@ -1,31 +1,40 @@
 // The lines of a layout, as bytes of a buffer.
 #![tactic(auto)]
 
-ghost use Rattle.std.specs.Prelude.{◌+◌, ◌*◌};
+ghost use Rattle.std.specs.Prelude.{◌≡◌, ◌+◌, ◌*◌, ◌≤◌, length};
 ghost use Rattle.words.specs.Put.{Put};
-ghost use Rattle.layout.specs.Lines.{four_lines, laid_lines, EntriesFit, LaidFits};
+ghost use Rattle.layout.specs.Lines.{fate_at, entries_lines, laid_lines, EntriesFit, LaidFits};
 
-use defs::{Figures, Totals};
+use defs::{Entry, Fate, Figures, Position, Totals};
+
+// The fate that the four words of an entry say: a placed piece has 0 and its position, a refused one its number.
+#[tactic(auto, unfolding(crate::specs::Lines::fate_at))]
+fn fate_at(words: &[u16], at: usize) -> Fate
+    requires { at + 4 ≤ length words.now }
+    ensures { result ≡ fate_at words.now at }
+{
+    match words[at] {
+        0 => Fate::Placed(Position {
+            turn: words[at + 1],
+            column: words[at + 2],
+            height: words[at + 3],
+        }),
+        number => Fate::Refused(number),
+    }
+}
 
 // The lines of `count` entries.
 fn put_entries(out: &mut [u8], at: usize, words: &[u16], count: usize) -> usize
     requires { EntriesFit out.old at words.now count }
-    ensures { Put out.old out.new at (four_lines words.now 0 count) result }
+    ensures { Put out.old out.new at (entries_lines words.now 0 count) result }
 {
-    let mut i: usize = 0;
     let mut to = at;
-    while i < count {
-        let j = numbers::ENTRY_WORDS * i;
-        to = layoutlines::put_entry(
-            out,
-            to,
-            (i + 1) as u16,
-            words[j],
-            words[j + 1],
-            words[j + 2],
-            words[j + 3],
-        );
-        i += 1;
+    for i in 0..count {
+        let e = Entry {
+            ordinal: (i + 1) as u16,
+            fate: fate_at(words, numbers::ENTRY_WORDS * i),
+        };
+        to = layoutlines::put_entry(out, to, e);
     }
     to
 }

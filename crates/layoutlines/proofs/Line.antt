@@ -1,15 +1,14 @@
 -- A line from its parts.
 -- Assumes nothing.
-use mathlib.Core.Path.{◌≡◌, refl}
+use mathlib.Core.Path.{refl}
 use mathlib.Core.List.{List, [], ◌∷◌}
 use Prim.Native.Nat.{ℕ, ◌+◌}
 use lib.ListN.{set}
-use borrow.Author.Tests.{eq-eqb, ne_eqb}
 use Rattle.defs.specs.declared.Totals.{Totals}
 use Rattle.defs.specs.Computing.Ascii.{ascii}
 use Rattle.defs.specs.Computing.Text.{long_decimal, spaced, line, totals_line}
 use Rattle.words.specs.Put.{Put}
-use Rattle.layoutlines.specs.Line.{lined, fate_line}
+use Rattle.layoutlines.specs.Line.{lined}
 use Rattle.print.proofs.Puts.{then, one_then}
 
 pub line_put : {o o₁ o₂ : List ℕ} {at a b : ℕ} {word : List ℕ} (ns : List ℕ) → Put o o₁ at word a → Put o₁ o₂ a (spaced ns) b →
@@ -21,11 +20,3 @@ pub totals_put : {o o₁ o₂ o₃ : List ℕ} {at a b r : ℕ} (t : Totals) →
     Put (set o₁ a 32) o₂ (a + 1) (long_decimal t.used) b → Put o₂ o₃ b (line " placed" (t.placed ∷ [])) r → Put o o₃ at (totals_line t) r
 unfolding totals_line
 totals_put t p q l = then p (then (one_then 32 q) l)
-
-pub fate_placed : {n : ℕ} (t c h : ℕ) → n ≡ 0 → line " placed" (t ∷ c ∷ h ∷ []) ≡ fate_line n t c h
-unfolding fate_line
-fate_placed {n} t c h e = rw (eq-eqb n 0 e)
-
-pub fate_refused : (n t c h : ℕ) → ¬ (n ≡ 0) → line " refused" (n ∷ []) ≡ fate_line n t c h
-unfolding fate_line
-fate_refused n t c h e = rw (ne_eqb n 0 e)

@@ -2,11 +2,11 @@
 #![tactic(auto)]
 
 ghost use Rattle.std.specs.Prelude.{[], ◌∷◌, ◌+◌, ◌*◌, ◌≤◌, length};
-ghost use Rattle.defs.specs.Computing.Text.{line, totals_line};
+ghost use Rattle.defs.specs.Computing.Text.{line, entry_line, totals_line};
 ghost use Rattle.words.specs.Put.{Put};
-ghost use Rattle.layoutlines.specs.Line.{lined, fate_line, four_line};
+ghost use Rattle.layoutlines.specs.Line.{lined};
 
-use defs::{Refusal, Totals};
+use defs::{Entry, Fate, Refusal, Totals};
 
 // A word with the numbers after it, to the end of the line.
 pub fn put_line(out: &mut [u8], at: usize, word: &[u8], numbers: &[u16]) -> usize
@@ -19,24 +19,16 @@ pub fn put_line(out: &mut [u8], at: usize, word: &[u8], numbers: &[u16]) -> usiz
     b + 1
 }
 
-// What a line says after the ordinal: a placed piece has 0 and its position, a refused one its number.
-fn put_fate(out: &mut [u8], at: usize, n: u16, t: u16, c: u16, h: u16) -> usize
-    requires { at + 26 ≤ length out.old }
-    ensures { Put out.old out.new at (fate_line n t c h) result }
-{
-    if n == 0 {
-        return put_line(out, at, b" placed", &[t, c, h]);
-    }
-    put_line(out, at, b" refused", &[n])
-}
-
-// The line of an entry, from its four words of the output.
-pub fn put_entry(out: &mut [u8], at: usize, ordinal: u16, n: u16, t: u16, c: u16, h: u16) -> usize
+// The line of an entry.
+pub fn put_entry(out: &mut [u8], at: usize, e: Entry) -> usize
     requires { at + 31 ≤ length out.old }
-    ensures { Put out.old out.new at (four_line ordinal n t c h) result }
+    ensures { Put out.old out.new at (entry_line e) result }
 {
-    let a = print::put_decimal(out, at, ordinal);
-    put_fate(out, a, n, t, c, h)
+    let a = print::put_decimal(out, at, e.ordinal);
+    match e.fate {
+        Fate::Placed(p) => put_line(out, a, b" placed", &[p.turn, p.column, p.height]),
+        Fate::Refused(n) => put_line(out, a, b" refused", &[n]),
+    }
 }
 
 // The last line.

@@ -22,5 +22,5 @@ pub fn strip_words(sheet: &[u8]) -> usize
     if limits::MOST_COLUMNS < columns {
         return 0;
     }
-    limits::LEADING_WORDS + columns as usize + limits::RECORD_WORDS * RECORDS
+    limits::LEADING_WORDS + usize::from(columns) + limits::RECORD_WORDS * RECORDS
 }

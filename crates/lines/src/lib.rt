@@ -3,14 +3,11 @@
 // millimetres. `#` begins a comment; after a line `mm` all other lengths are millimetres, before it units of 1/8 mm.
 #![tactic(auto)]
 
-ghost use Rattle.std.specs.Prelude.{◌+◌, ◌≤◌, ◌<◌, length};
-ghost use Rattle.pathfile.specs.Within.{Within};
+ghost use Rattle.std.specs.Prelude.{◌+◌, ◌≤◌, ◌<◌, length, IfOk};
 
-use gapline::Gap;
-use pathfile::Outline;
 use std::fs::Files;
 use tokens::fault::Fault;
-use tokens::{Number, Vertex, fault};
+use tokens::{Scanner, Unit, Vertex};
 
 // The most bytes of a text.
 const MOST_TEXT: usize = 262144;
@@ -21,347 +18,226 @@ const LEAST_VERTICES: usize = 3;
 
 const MOST_PIECE_WORDS: usize = 130;
 
-// What a text has said so far.
-#[derive(Clone, Copy)]
-pub struct Job {
-    // the numbers of the present line and of the strip's, 0 before there is one
+#[derive(Clone, Copy, Debug, PartialEq, Eq)]
+pub struct Strip {
+    // the number of the line that says it
     pub line: u16,
-    pub strip: u16,
     pub width: u16,
     pub resolution: u16,
     pub columns: u16,
-    // in units, 0 until a line says another
+}
+
+// What a text says, beside its cut list.
+#[derive(Clone, Copy, Debug, PartialEq, Eq)]
+pub struct Job {
+    pub strip: Strip,
+    // in units
     pub gap: u16,
-    pub gap_said: bool,
     pub pieces: u16,
+}
+
+// What is wrong with a text, and the number of its line, 0 where it is no line's fault.
+#[derive(Clone, Copy, Debug, PartialEq, Eq)]
+pub struct Misread {
+    pub fault: Fault,
+    pub line: u16,
+}
+
+// The vertices to the end of the line, from place `to` of the list. Answers their number.
+fn vertices(line: &mut Scanner, unit: Unit, list: &mut [u16], to: usize) -> Result<usize, Fault>
+    requires { to + 128 ≤ length list.old }
+    ensures { IfOk result (λ n. n ≤ 64) }
+{
+    let mut count = 0;
+    while !line.is_at_end() {
+        if numbers::MOST_VERTICES <= count {
+            return Err(Fault::Vertices);
+        }
+        let Vertex { x, y } = line.vertex(unit)?;
+        list[to + 2 * count] = x;
+        list[to + 2 * count + 1] = y;
+        count += 1;
+    }
+    Ok(count)
+}
+
+// Where the vertices of a piece stand: in its line, or in the file that its line names.
+#[derive(Clone, Copy)]
+enum Source {
+    Line,
+    File,
+}
+
+// What a text has said so far.
+#[derive(Clone, Copy)]
+struct Draft {
+    // the number of the present line
+    line: u16,
+    strip: Option<Strip>,
+    gap: Option<u16>,
+    pieces: u16,
     // of the cut list
-    pub words: usize,
-    pub mm: bool,
+    words: usize,
+    unit: Unit,
 }
 
-#[derive(Clone, Copy)]
-pub enum Line {
-    Good(Job),
-    Bad(Fault),
-}
-
-// `mm`, and no more.
-fn mm_line(line: &[u8], at: usize, job: Job) -> Line {
-    if tokens::skip_blanks(line, at) < line.len() {
-        return Line::Bad(fault::ALONE);
-    }
-    let mut j = job;
-    j.mm = true;
-    Line::Good(j)
-}
-
-// The columns, to the end of the line: their number is no length.
-fn strip_columns(line: &[u8], at: usize, job: Job) -> Line {
-    match tokens::next_number(line, at, false) {
-        Number::Is(n, next) => {
-            if tokens::skip_blanks(line, next) < line.len() {
-                return Line::Bad(fault::FIGURES);
-            }
-            let mut j = job;
-            j.columns = n;
-            Line::Good(j)
-        }
-        Number::Bad(f) => Line::Bad(f),
-    }
-}
-
-// The resolution and the columns.
-fn strip_resolution(line: &[u8], at: usize, job: Job) -> Line {
-    match tokens::next_number(line, at, job.mm) {
-        Number::Is(n, next) => {
-            let mut j = job;
-            j.resolution = n;
-            strip_columns(line, next, j)
-        }
-        Number::Bad(f) => Line::Bad(f),
-    }
-}
-
-// Width, resolution and columns.
-fn strip_line(line: &[u8], at: usize, job: Job) -> Line {
-    if job.strip != 0 {
-        return Line::Bad(fault::TWICE);
-    }
-    match tokens::next_number(line, at, job.mm) {
-        Number::Is(n, next) => {
-            let mut j = job;
-            j.strip = job.line;
-            j.width = n;
-            strip_resolution(line, next, j)
-        }
-        Number::Bad(f) => Line::Bad(f),
-    }
-}
-
-// The gap, once and before the pieces.
-fn gap_line(line: &[u8], at: usize, job: Job) -> Line {
-    if job.gap_said {
-        return Line::Bad(fault::GAPS);
-    }
-    if job.pieces != 0 {
-        return Line::Bad(fault::GAP_FIRST);
-    }
-    match gapline::gap_at(line, at) {
-        Gap::Is(n) => {
-            let mut j = job;
-            j.gap = n;
-            j.gap_said = true;
-            Line::Good(j)
-        }
-        Gap::Bad(f) => Line::Bad(f),
-    }
-}
-
-fn set_pair(list: &mut [u16], at: usize, x: u16, y: u16)
-    requires { at + 2 ≤ length list.old }
-{
-    list[at] = x;
-    list[at + 1] = y;
-}
-
-// The vertices to the end of the line, from place `to` of the list.
-fn vertices(line: &[u8], at: usize, mm: bool, list: &mut [u16], to: usize) -> Outline
-    requires { to + 128 ≤ length list.old }
-    ensures { Within result }
-{
-    let mut a = tokens::skip_blanks(line, at);
-    let mut k: usize = 0;
-    while a < line.len() {
-        if numbers::MOST_VERTICES <= k {
-            return Outline::Bad(fault::VERTICES);
-        }
-        match tokens::vertex_at(line, a, mm) {
-            Vertex::Is(x, y, next) => {
-                set_pair(list, to + 2 * k, x, y);
-                a = next;
-            }
-            Vertex::Bad(f) => {
-                return Outline::Bad(f);
-            }
-        }
-        k += 1;
-    }
-    Outline::Vertices(k)
-}
-
-// The vertices of a piece, typed or in a file, from place `to` of the list.
-fn piece_vertices<R: Files>(
-    rt: &R,
-    line: &[u8],
-    at: usize,
-    typed: bool,
-    mm: bool,
-    list: &mut [u16],
-    to: usize,
-) -> Outline
-    requires { to + 128 ≤ length list.old }
-    ensures { Within result }
-{
-    if typed {
-        return vertices(line, at, mm, list, to);
-    }
-    pathfile::put_outline(rt, line, at, list, to)
-}
-
-// The count and the mask of a piece before its vertices, which are at the end of the list.
-fn add_piece(job: Job, list: &mut [u16], count: usize, mask: u16) -> Line
-    requires { (job.words + 130 ≤ length list.old) × ((job.pieces < 200) × (count ≤ 64)) }
-{
-    if count < LEAST_VERTICES {
-        return Line::Bad(fault::VERTICES);
-    }
-    let to = job.words;
-    set_pair(list, to, count as u16, mask);
-    let mut j = job;
-    j.pieces = job.pieces + 1;
-    j.words = to + 2 + 2 * count;
-    Line::Good(j)
-}
-
-// The vertices of a piece of this mask.
-fn outline_line<R: Files>(
-    rt: &R,
-    line: &[u8],
-    at: usize,
-    typed: bool,
-    mask: u16,
-    job: Job,
-    list: &mut [u16],
-) -> Line
-    requires fact_1 { job.words + 130 ≤ length list.old }
-    requires fact_2 { job.pieces < 200 }
-{
-    match piece_vertices(rt, line, at, typed, job.mm, list, job.words + 2) {
-        Outline::Vertices(n) => add_piece(job, list, n, mask),
-        Outline::Bad(f) => Line::Bad(f),
-    }
-}
-
-// Mask and vertices.
-fn piece_line<R: Files>(
-    rt: &R,
-    line: &[u8],
-    at: usize,
-    typed: bool,
-    job: Job,
-    list: &mut [u16],
-) -> Line
-    requires { 130 ≤ length list.old }
-{
-    if job.strip == 0 {
-        return Line::Bad(fault::FIRST);
-    }
-    let k = job.pieces as usize;
-    if records::MOST_PIECES <= k {
-        return Line::Bad(fault::PIECES);
-    }
-    if list.len() - MOST_PIECE_WORDS < job.words {
-        return Line::Bad(fault::PIECES);
-    }
-    match tokens::next_number(line, at, false) {
-        Number::Is(mask, next) => outline_line(rt, line, next, typed, mask, job, list),
-        Number::Bad(f) => Line::Bad(f),
-    }
-}
-
-// What a line says, by its first word.
-#[derive(Clone, Copy)]
-pub enum Kind {
-    Strip,
-    Piece,
-    Path,
-    Gap,
-    Mm,
-    Other,
-}
-
-fn kind_of(word: &[u8]) -> Kind {
-    if tokens::same(word, b"piece") {
-        return Kind::Piece;
-    }
-    if tokens::same(word, b"path") {
-        return Kind::Path;
-    }
-    if tokens::same(word, b"strip") {
-        return Kind::Strip;
-    }
-    if tokens::same(word, b"gap") {
-        return Kind::Gap;
-    }
-    if tokens::same(word, b"mm") {
-        return Kind::Mm;
-    }
-    Kind::Other
-}
-
-// A line without its comment.
-fn bare_line<R: Files>(rt: &R, line: &[u8], job: Job, list: &mut [u16]) -> Line
-    requires { 130 ≤ length list.old }
-{
-    let a = tokens::skip_blanks(line, 0);
-    if line.len() <= a {
-        return Line::Good(job);
-    }
-    let e = tokens::word_end(line, a);
-    match kind_of(&line[a..e]) {
-        Kind::Strip => strip_line(line, e, job),
-        Kind::Piece => piece_line(rt, line, e, true, job, list),
-        Kind::Path => piece_line(rt, line, e, false, job, list),
-        Kind::Gap => gap_line(line, e, job),
-        Kind::Mm => mm_line(line, e, job),
-        Kind::Other => Line::Bad(fault::WORD),
-    }
-}
-
-// The line of the text from place `at` to place `end`.
-fn text_line<R: Files>(
-    rt: &R,
-    text: &[u8],
-    at: usize,
-    end: usize,
-    job: Job,
-    list: &mut [u16],
-) -> Line
-    requires { (at ≤ end) × ((end ≤ length text.now) × (130 ≤ length list.old)) }
-{
-    let c = tokens::comment(text, at, end);
-    bare_line(rt, &text[at..c], job, list)
-}
-
-#[derive(Clone, Copy)]
-pub enum Text {
-    Good(Job),
-    // with the number of the line, 0 where it is no line's fault
-    Bad(Fault, u16),
-}
-
-fn empty_job() -> Job {
-    Job {
+impl Draft {
+    const EMPTY: Draft = Draft {
         line: 0,
-        strip: 0,
-        width: 0,
-        resolution: 0,
-        columns: 0,
-        gap: 0,
-        gap_said: false,
+        strip: None,
+        gap: None,
         pieces: 0,
         words: 1,
-        mm: false,
-    }
-}
+        unit: Unit::Eighth,
+    };
 
-// At the end of the text.
-fn whole_job(job: Job) -> Text {
-    if job.strip == 0 {
-        return Text::Bad(fault::NO_STRIP, job.line);
-    }
-    Text::Good(job)
-}
-
-// Keeps the number of the line for the next piece: if the line is no piece, a later one's takes its place.
-fn keep_line(lines: &mut [u16], job: Job) {
-    let k = job.pieces as usize;
-    if k < lines.len() {
-        lines[k] = job.line;
-    }
-}
-
-fn text_lines<R: Files>(rt: &R, text: &[u8], list: &mut [u16], lines: &mut [u16]) -> Text
-    requires { 130 ≤ length list.old }
-{
-    let mut at: usize = 0;
-    let mut job = empty_job();
-    while at < text.len() {
-        if MOST_LINES <= job.line {
-            return Text::Bad(fault::LINES, job.line);
+    fn misread(self, fault: Fault) -> Misread {
+        Misread {
+            fault,
+            line: self.line,
         }
-        job.line += 1;
-        keep_line(lines, job);
-        let e = tokens::line_end(text, at);
-        match text_line(rt, text, at, e, job, list) {
-            Line::Good(j) => {
-                job = j;
-            }
-            Line::Bad(f) => {
-                return Text::Bad(f, job.line);
-            }
-        }
-        at = e;
     }
-    whole_job(job)
+
+    // `mm`, and no more.
+    fn read_mm(&mut self, line: &mut Scanner) -> Result<(), Fault> {
+        if !line.is_at_end() {
+            return Err(Fault::Alone);
+        }
+        self.unit = Unit::Millimetre;
+        Ok(())
+    }
+
+    // Width, resolution and columns, to the end of the line: the number of columns is no length.
+    fn read_strip(&mut self, line: &mut Scanner) -> Result<(), Fault> {
+        if self.strip.is_some() {
+            return Err(Fault::Twice);
+        }
+        let width = line.length(self.unit)?;
+        let resolution = line.length(self.unit)?;
+        let columns = line.number()?;
+        if !line.is_at_end() {
+            return Err(Fault::Figures);
+        }
+        self.strip = Some(Strip {
+            line: self.line,
+            width,
+            resolution,
+            columns,
+        });
+        Ok(())
+    }
+
+    // The gap, once and before the pieces.
+    fn read_gap(&mut self, line: &mut Scanner) -> Result<(), Fault> {
+        if self.gap.is_some() {
+            return Err(Fault::Gaps);
+        }
+        if self.pieces != 0 {
+            return Err(Fault::GapFirst);
+        }
+        self.gap = Some(gapline::read_gap(line)?);
+        Ok(())
+    }
+
+    // Mask and vertices of one more piece.
+    fn read_piece<R: Files>(
+        &mut self,
+        rt: &R,
+        line: &mut Scanner,
+        source: Source,
+        list: &mut [u16],
+    ) -> Result<(), Fault>
+        requires { 130 ≤ length list.old }
+    {
+        if self.strip.is_none() {
+            return Err(Fault::First);
+        }
+        if records::MOST_PIECES <= usize::from(self.pieces)
+            || list.len() - MOST_PIECE_WORDS < self.words
+        {
+            return Err(Fault::Pieces);
+        }
+        let mask = line.number()?;
+        let to = self.words + 2;
+        let count = match source {
+            Source::Line => vertices(line, self.unit, list, to)?,
+            Source::File => pathfile::put_outline(rt, line, list, to)?,
+        };
+        self.add_piece(list, count, mask)
+    }
+
+    // The count and the mask of a piece before its vertices, which are at the end of the list.
+    fn add_piece(&mut self, list: &mut [u16], count: usize, mask: u16) -> Result<(), Fault>
+        requires pieces { self.old.pieces < 200 }
+        requires count { count ≤ 64 }
+        requires room { self.old.words + 130 ≤ length list.old }
+    {
+        if count < LEAST_VERTICES {
+            return Err(Fault::Vertices);
+        }
+        list[self.words] = count as u16;
+        list[self.words + 1] = mask;
+        self.words += 2 + 2 * count;
+        self.pieces += 1;
+        Ok(())
+    }
+
+    // One more line, by its first word.
+    fn read_line<R: Files>(&mut self, rt: &R, line: &[u8], list: &mut [u16]) -> Result<(), Fault>
+        requires { 130 ≤ length list.old }
+    {
+        let mut line = Scanner::new(tokens::without_comment(line));
+        if line.is_at_end() {
+            return Ok(());
+        }
+        match line.word() {
+            b"piece" => self.read_piece(rt, &mut line, Source::Line, list),
+            b"path" => self.read_piece(rt, &mut line, Source::File, list),
+            b"strip" => self.read_strip(&mut line),
+            b"gap" => self.read_gap(&mut line),
+            b"mm" => self.read_mm(&mut line),
+            _ => Err(Fault::Word),
+        }
+    }
+
+    // At the end of the text.
+    fn job(self) -> Result<Job, Misread> {
+        match self.strip {
+            Some(strip) => Ok(Job {
+                strip,
+                gap: self.gap.unwrap_or(0),
+                pieces: self.pieces,
+            }),
+            None => Err(self.misread(Fault::NoStrip)),
+        }
+    }
 }
 
 // What a text says. Its pieces go into the list from place 1 on, the numbers of their lines into `lines`.
-pub fn read_text<R: Files>(rt: &R, text: &[u8], list: &mut [u16], lines: &mut [u16]) -> Text
+pub fn read_text<R: Files>(
+    rt: &R,
+    text: &[u8],
+    list: &mut [u16],
+    lines: &mut [u16],
+) -> Result<Job, Misread>
     requires { 130 ≤ length list.old }
 {
+    let mut draft = Draft::EMPTY;
     if MOST_TEXT < text.len() {
-        return Text::Bad(fault::LONG, 0);
+        return Err(draft.misread(Fault::Long));
     }
-    text_lines(rt, text, list, lines)
+    for line in text.split_inclusive(|b| *b == b'\n') {
+        if MOST_LINES <= draft.line {
+            return Err(draft.misread(Fault::Lines));
+        }
+        draft.line += 1;
+        // for the next piece: if the line is no piece, a later line's number takes its place
+        if let Some(l) = lines.get_mut(usize::from(draft.pieces)) {
+            *l = draft.line;
+        }
+        if let Err(fault) = draft.read_line(rt, line, list) {
+            return Err(draft.misread(fault));
+        }
+    }
+    draft.job()
 }

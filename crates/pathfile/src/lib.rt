@@ -1,61 +1,41 @@
 // The outline of a path in a file that a line of a text names.
 #![tactic(auto)]
 
-ghost use Rattle.std.specs.Prelude.{◌≡◌, ◌+◌, ◌≤◌, length, take};
-ghost use Rattle.pathfile.specs.Within.{Within, Fit};
+ghost use Rattle.std.specs.Prelude.{◌≡◌, ◌+◌, ◌≤◌, length, take, IfOk};
 
 use std::fs;
 use std::fs::Files;
-use tokens::fault;
+use tokens::Scanner;
 use tokens::fault::Fault;
 
 // One byte more than the longest path has, so that a longer file is noticed: it has another shape.
 const ROOM: usize = 578;
 
-// The number of an outline's vertices, or what is wrong with it.
-#[derive(Clone, Copy)]
-pub enum Outline {
-    Vertices(usize),
-    Bad(Fault),
-}
-
-#[derive(Clone, Copy)]
-pub enum Words {
-    Are(usize),
-    Bad(Fault),
-}
-
 // What is wrong with a path, by the number of its refusal: 19 or 20, since there is room for every outline.
 fn fault_of(number: u16) -> Fault {
     match number {
-        19 => fault::SHAPE,
-        _ => fault::COORDINATE,
+        19 => Fault::Shape,
+        _ => Fault::Coordinate,
     }
 }
 
 // The outline of a path, as words.
-fn read_words(path: &[u8], out: &mut [u16]) -> Words
-    ensures { Fit result (length out.new) }
+fn read_words(path: &[u8], out: &mut [u16]) -> Result<usize, Fault>
+    ensures { IfOk result (λ n. n ≤ 128) }
 {
     match readpath::read_path(path, out) {
-        Ok(n) => Words::Are(n as usize),
-        Err(r) => Words::Bad(fault_of(r.number)),
+        Ok(n) => Ok(n as usize),
+        Err(r) => Err(fault_of(r.number)),
     }
 }
 
-// The outline of a path, from place `to` of the list.
-fn put_path(path: &[u8], list: &mut [u16], to: usize) -> Outline
+// The outline of a path, from place `to` of the list. Answers the number of its vertices.
+fn put_path(path: &[u8], list: &mut [u16], to: usize) -> Result<usize, Fault>
     requires { to + 128 ≤ length list.old }
-    ensures { Within result }
+    ensures { IfOk result (λ n. n ≤ 64) }
 {
-    let mut outline = [0u16; numbers::MOST_WORDS];
-    match read_words(path, &mut outline) {
-        Words::Are(n) => {
-            words::copy_in(&outline[..n], list, to);
-            Outline::Vertices(n / 2)
-        }
-        Words::Bad(f) => Outline::Bad(f),
-    }
+    let n = read_words(path, &mut list[to..to + numbers::MOST_WORDS])?;
+    Ok(n / 2)
 }
 
 // The first bytes of the file with this name, and their number: 0 also where it cannot be read.
@@ -72,27 +52,25 @@ fn file_bytes<R: Files>(rt: &R, name: &[u8], bytes: &mut [u8]) -> usize
     }
 }
 
-fn put_named<R: Files>(rt: &R, name: &[u8], list: &mut [u16], to: usize) -> Outline
+// The outline of the path in the file that the rest of a line names, from place `to` of the list. Answers the number of its vertices.
+// A name may have blanks inside.
+pub fn put_outline<R: Files>(
+    rt: &R,
+    line: &mut Scanner,
+    list: &mut [u16],
+    to: usize,
+) -> Result<usize, Fault>
     requires { to + 128 ≤ length list.old }
-    ensures { Within result }
+    ensures { IfOk result (λ n. n ≤ 64) }
 {
+    let name = line.remainder();
+    if name.is_empty() {
+        return Err(Fault::Name);
+    }
     let mut bytes = [0u8; ROOM];
     let n = file_bytes(rt, name, &mut bytes);
     if n == 0 {
-        return Outline::Bad(fault::UNREAD);
+        return Err(Fault::Unread);
     }
     put_path(&bytes[..n], list, to)
-}
-
-// The outline of the path in the file that the rest of a line names, from place `to` of the list. A name may have blanks inside.
-pub fn put_outline<R: Files>(rt: &R, line: &[u8], at: usize, list: &mut [u16], to: usize) -> Outline
-    requires { to + 128 ≤ length list.old }
-    ensures { Within result }
-{
-    let a = tokens::skip_blanks(line, at);
-    let e = tokens::last_end(line, a);
-    if e <= a {
-        return Outline::Bad(fault::NAME);
-    }
-    put_named(rt, &line[a..e], list, to)
 }

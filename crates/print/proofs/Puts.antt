@@ -2,84 +2,69 @@
 -- Assumes nothing.
 use mathlib.Core.Path.{◌≡◌, refl, sym, ap, ◌∙◌}
 use mathlib.Core.Bool.{Bool, true, false, cond}
-use mathlib.Core.List.{List, [], ◌∷◌, ◌++◌}
+use mathlib.Core.List.{List, [], ◌∷◌, ◌++◌, append_assoc}
 use Prim.Native.Nat.{ℕ, zero, suc, ◌+◌, ◌-◌, ◌*◌, ◌/◌, ◌%◌, ◌≤◌, ◌<◌}
 use native.Mathlib.Omega.{arith}
 use native.Mathlib.Numerals.{add-one}
 use lib.ListN.{length, get_or, set, take, drop, length-drop, length-set, length-append, drop_of_length-le}
-use lib.Seq.{sets, take_all, length-sets, drop-cons, drop-set-lt, get_or-set_same}
+use lib.Seq.{sets, sets-eq, take_all, length-sets, drop-cons, drop-drop, drop-set-lt, get_or-set_same}
+use borrow.Rule.Slice.PartMut.{put_mid}
 use lib.Dec.{ltb}
 use borrow.Author.Tests.{lt-ltb, le-ltb}
 use Rattle.defs.specs.Computing.Text.{digits, decimal, long_decimal, spaced}
 use Rattle.laws.proofs.Stores.{sets_append}
 use Rattle.words.specs.Put.{Put}
-use Rattle.print.specs.Spelled.{bound, Enough, Spelled}
+use Rattle.print.specs.Spelled.{Spelled}
 
 -- digits
 
--- the bytes of a number of 16 bits, and of one of 32 bits
-pub decimal_enough : {n : ℕ} → n < 65536 → Enough n 5
-unfolding bound
-decimal_enough l = record { some = omega arith; small = omega arith }
-
-pub long_enough : {n : ℕ} → n < 4294967296 → Enough n 10
-unfolding bound
-long_enough l = record { some = omega arith; small = omega arith }
-
--- the digits from place i on are set; what is left to spell is `rest`, its last digit at place i
+-- the digits from place i on are set; what is left to spell is `rest`, before place i
 pub record Spelling (k n : ℕ) (text : List ℕ) (rest i : ℕ) : Type 0 where
-  pub few : i < k
   pub long : length text ≡ k
-  pub small : rest < bound (suc i)
-  pub here : get_or text i 0 ≡ 48 + rest % 10
-  pub left : digits (suc i) rest (drop (suc i) text) ≡ digits k n []
+  pub left : digits i rest (drop i text) ≡ digits k n []
 
-pub spell_start : {n d : ℕ} (text : List ℕ) → Enough n (length text) → d ≡ 48 + n % 10 →
-    Spelling (length text) n (set text (length text - 1) d) n (length text - 1)
-spell_start {n} {d} text m f = go (length text - 1) (omega (arith, m.some))
-  where
-    go : (i : ℕ) → length text ≡ suc i → Spelling (length text) n (set text i d) n i
-    go i e =
-        let long : length (set text i d) ≤ suc i = omega (arith, length-set text i d) in
-        record {
-          few = omega arith;
-          long = length-set text i d;
-          small = rw e at m.small;
-          here = get_or-set_same text i d 0 (omega arith) ∙ f;
-          left = ap (digits (suc i) n) (drop_of_length-le (set text i d) long) ∙ ap (λ (k : ℕ). digits k n []) (sym e);
-        }
+pub spell_start : (n : ℕ) (text : List ℕ) → Spelling (length text) n text n (length text)
+spell_start n text = record { long = refl; left = ap (digits (length text) n) (drop_of_length-le text (omega arith)) }
 
-module _ {k n : ℕ} {text : List ℕ} {rest i : ℕ} (s : Spelling k n text rest i) where
-  here_on : drop i text ≡ (48 + rest % 10) ∷ drop (suc i) text
-  here_on = drop-cons text i 0 (omega (arith, s.few, s.long)) ∙ ap (λ (d : ℕ). d ∷ drop (suc i) text) s.here
+-- the digit at place i - 1
+module _ {k n : ℕ} {text : List ℕ} {rest i d : ℕ} (s : Spelling k n text rest i) (some : 0 < i) (few : i ≤ k) (f : d ≡ 48 + rest % 10) where
+  suc_is : i ≡ suc (i - 1)
+  suc_is = omega arith
 
-  pub spell_more : 10 ≤ rest → 0 < i
-  unfolding bound
-  spell_more l = go i s.small
-    where
-      go : (j : ℕ) → rest < bound (suc j) → 0 < j
-      go zero h = absurd (omega arith)
-      go (suc j) h = omega arith
+  here_on : drop (i - 1) (set text (i - 1) d) ≡ (48 + rest % 10) ∷ drop i text
+  here_on =
+      let long : length (set text (i - 1) d) ≡ length text = length-set text (i - 1) d in
+      let at : get_or (set text (i - 1) d) (i - 1) 0 ≡ d = get_or-set_same text (i - 1) d 0 (omega (arith, s.long)) in
+      let past : drop (suc (i - 1)) (set text (i - 1) d) ≡ drop i text =
+      drop-set-lt (suc (i - 1)) text (i - 1) d (omega arith) ∙ ap (λ (j : ℕ). drop j text) (sym suc_is) in
+      drop-cons (set text (i - 1) d) (i - 1) 0 (omega (arith, s.long)) ∙ rw (at, past, f)
 
-  pub spell_next : {d : ℕ} → 10 ≤ rest → d ≡ 48 + rest / 10 % 10 → Spelling k n (set text (i - 1) d) (rest / 10) (i - 1)
-  unfolding digits bound
-  spell_next {d} l f = go (i - 1) (omega (arith, spell_more l))
-    where
-      go : (j : ℕ) → i ≡ suc j → Spelling k n (set text j d) (rest / 10) j
-      go j e =
-          record {
-            few = omega (arith, s.few);
-            long = length-set text j d ∙ s.long;
-            small = omega (arith, rw e at s.small);
-            here = get_or-set_same text j d 0 (omega (arith, s.few, s.long)) ∙ f;
-            left =
-                ap (digits (suc j) (rest / 10)) (drop-set-lt (suc j) text j d (omega arith) ∙ rw e at here_on) ∙
-                rw e at (rw (le-ltb rest 10 l) at s.left);
-          }
+  left_from : digits (suc (i - 1)) rest (drop i text) ≡ digits k n []
+  left_from = ap (λ (j : ℕ). digits j rest (drop i text)) (sym suc_is) ∙ s.left
 
-  pub spell_end : rest < 10 → Spelled k n text i
+  pub spell_next : 10 ≤ rest → Spelling k n (set text (i - 1) d) (rest / 10) (i - 1)
   unfolding digits
-  spell_end l = record { few = s.few; long = s.long; is = here_on ∙ rw (lt-ltb rest 10 l) at s.left }
+  spell_next m =
+      record {
+        long = length-set text (i - 1) d ∙ s.long;
+        left = ap (digits (i - 1) (rest / 10)) here_on ∙ rw (le-ltb rest 10 m) at left_from;
+      }
+
+  pub spell_end : rest < 10 → Spelled k n (set text (i - 1) d) (i - 1)
+  unfolding digits
+  spell_end m =
+      record {
+        within = omega arith;
+        long = length-set text (i - 1) d ∙ s.long;
+        is = here_on ∙ rw (lt-ltb rest 10 m) at left_from;
+      }
+
+-- all bytes are set
+pub spell_all : {k n : ℕ} {text : List ℕ} {rest i : ℕ} → Spelling k n text rest i → i ≤ 0 → Spelled k n text 0
+unfolding digits
+spell_all {text = text} {rest} {i} s none =
+    let e : i ≡ 0 = omega arith in
+    record { within = omega arith; long = s.long; is = ap (λ (j : ℕ). digits j rest (drop j text)) (sym e) ∙ s.left }
 
 pub either_few : (t : Bool) (xs ys : List ℕ) (k : ℕ) → length xs ≤ k → length ys ≤ k → length (cond t xs ys) ≤ k
 either_few true xs ys k h l = h
@@ -99,6 +84,14 @@ decimal_few n = digits_few 5 n []
 pub long_few : (n : ℕ) → length (long_decimal n) ≤ 10
 unfolding long_decimal
 long_few n = digits_few 10 n []
+
+-- a copy of the bytes from place at
+pub put_copied : {o xs ys : List ℕ} {at : ℕ} → ys ≡ xs → at + length xs ≤ length o →
+    Put o (put_mid at (at + length xs - at) o ys) at xs (at + length xs)
+put_copied {o} {xs} {ys} {at} e l =
+    let one : at + length xs - at ≡ length xs = omega arith in
+    let past : drop (length xs) (drop at o) ≡ drop (at + length xs) o = drop-drop (length xs) at o in
+    record { words = rw (e, one, past) (sym (append_assoc (take at o) xs (drop (at + length xs) o)) ∙ sym (sets-eq xs o at l)); after = refl }
 
 -- one after another
 

@@ -1,20 +1,10 @@
--- The digits of a number, at the end of bytes that are enough for them.
+-- The digits of a number, at the end of bytes.
 -- Assumes nothing.
-use Rattle.std.specs.Prelude.{◌≡◌, List, [], ℕ, zero, suc, ◌*◌, ◌<◌, length, drop}
+use Rattle.std.specs.Prelude.{◌≡◌, List, [], ℕ, ◌≤◌, length, drop}
 use Rattle.defs.specs.Computing.Text.{digits}
 
--- the least number of more than k digits
-unfoldable pub bound : ℕ → ℕ
-bound zero = 1
-bound (suc k) = 10 * bound k
-
--- k bytes are enough for n, which has one digit at least
-pub record Enough (n k : ℕ) : Type 0 where
-  pub some : 0 < k
-  pub small : n < bound k
-
--- the digits of n stand from place r to the end of the k bytes
+-- the last k digits of n, without leading zeros, stand from place r to the end of the k bytes
 pub record Spelled (k n : ℕ) (text : List ℕ) (r : ℕ) : Type 0 where
-  pub few : r < k
+  pub within : r ≤ k
   pub long : length text ≡ k
   pub is : drop r text ≡ digits k n []

@@ -1,10 +1,10 @@
 // Bytes and numbers put into a buffer.
 #![tactic(auto)]
 
-ghost use Rattle.std.specs.Prelude.{◌≡◌, ◌+◌, ◌*◌, ◌%◌, ◌≤◌, ◌<◌, length};
-ghost use Rattle.defs.specs.Computing.Text.{decimal, long_decimal, spaced};
+ghost use Rattle.std.specs.Prelude.{[], ◌≡◌, ◌+◌, ◌*◌, ◌%◌, ◌≤◌, ◌<◌, length};
+ghost use Rattle.defs.specs.Computing.Text.{digits, decimal, long_decimal, spaced};
 ghost use Rattle.words.specs.Put.{Put};
-ghost use Rattle.print.specs.Spelled.{Enough, Spelled};
+ghost use Rattle.print.specs.Spelled.{Spelled};
 
 use defs::Refusal;
 
@@ -22,53 +22,58 @@ pub fn put(out: &mut [u8], at: usize, bytes: &[u8]) -> usize
     requires { at + length bytes.now ≤ length out.old }
     ensures { Put out.old out.new at bytes.now result }
 {
-    let mut i: usize = 0;
-    while i < bytes.len() {
-        out[at + i] = bytes[i];
-        i += 1;
-    }
-    at + bytes.len()
+    let end = at + bytes.len();
+    out[at..end].copy_from_slice(bytes);
+    end
 }
 
 // The last digit.
 pub fn digit(n: u32) -> u8
     ensures { result ≡ 48 + n % 10 }
 {
-    48 + (n % 10) as u8
+    b'0' + (n % 10) as u8
 }
 
-// The digits of n, at the end of the bytes. Answers where they begin.
+// The last digits of n, as many as there are bytes, without leading zeros, at the end of the bytes. Answers where they begin.
 fn spell(n: u32, text: &mut [u8]) -> usize
-    requires { Enough n (length text.old) }
     ensures { Spelled (length text.old) n text.new result }
 {
     let mut rest = n;
-    let mut i: usize = text.len() - 1;
-    text[i] = digit(rest);
-    while 10 <= rest {
-        rest /= 10;
-        i -= 1;
+    for i in (0..text.len()).rev() {
         text[i] = digit(rest);
+        if rest < 10 {
+            return i;
+        }
+        rest /= 10;
     }
-    i
+    0
 }
 
+// The last K digits of n, without leading zeros.
+fn put_digits<const K: usize>(out: &mut [u8], at: usize, n: u32) -> usize
+    requires { at + K ≤ length out.old }
+    ensures { Put out.old out.new at (digits K n []) result }
+{
+    let mut bytes = [0u8; K];
+    let text = &mut bytes[..];
+    let from = spell(n, text);
+    put(out, at, &text[from..])
+}
+
+#[tactic(auto, unfolding(defs::specs::Computing::Text::decimal))]
 pub fn put_decimal(out: &mut [u8], at: usize, n: u16) -> usize
     requires { at + 5 ≤ length out.old }
     ensures { Put out.old out.new at (decimal n) result }
 {
-    let mut text = [0u8; DIGITS];
-    let from = spell(n as u32, &mut text);
-    put(out, at, &text[from..])
+    put_digits::<DIGITS>(out, at, u32::from(n))
 }
 
+#[tactic(auto, unfolding(defs::specs::Computing::Text::long_decimal))]
 pub fn put_long(out: &mut [u8], at: usize, n: u32) -> usize
     requires { at + 10 ≤ length out.old }
     ensures { Put out.old out.new at (long_decimal n) result }
 {
-    let mut text = [0u8; LONG_DIGITS];
-    let from = spell(n, &mut text);
-    put(out, at, &text[from..])
+    put_digits::<LONG_DIGITS>(out, at, n)
 }
 
 // Each number after a space.
@@ -76,12 +81,10 @@ pub fn put_spaced(out: &mut [u8], at: usize, numbers: &[u16]) -> usize
     requires { at + 6 * length numbers.now ≤ length out.old }
     ensures { Put out.old out.new at (spaced numbers.now) result }
 {
-    let mut i: usize = 0;
     let mut to = at;
-    while i < numbers.len() {
+    for n in numbers {
         out[to] = b' ';
-        to = put_decimal(out, to + 1, numbers[i]);
-        i += 1;
+        to = put_decimal(out, to + 1, *n);
     }
     to
 }

@@ -2,10 +2,9 @@
 // of the sheet comes after the strip, as it stands there, in millimetres.
 #![tactic(auto)]
 
-ghost use Rattle.std.specs.Prelude.{◌+◌, ◌*◌, ◌≤◌, ◌<◌, length};
+ghost use Rattle.std.specs.Prelude.{◌+◌, ◌*◌, ◌/◌, ◌≤◌, length, IfSome};
 ghost use Rattle.words.specs.Put.{Put};
 ghost use Rattle.readable.specs.Words.{vertex_text};
-ghost use Rattle.readable.specs.Room.{PieceRoom, RoomOf};
 
 use defs::Figures;
 
@@ -17,17 +16,11 @@ const PIECE_ROOM: usize = 12;
 
 const VERTEX_ROOM: usize = 12;
 
-fn wide(x: u16) -> usize
-    ensures { result ≤ 65535 }
-{
-    x as usize
-}
-
 // x and y after a space, with a comma between them.
 fn put_vertex(out: &mut [u8], at: usize, x: u16, y: u16) -> usize
     requires { at + 12 ≤ length out.old }
-    ensures fact_1 { Put out.old out.new at (vertex_text x y) result }
-    ensures fact_2 { result ≤ at + 12 }
+    ensures text { Put out.old out.new at (vertex_text x y) result }
+    ensures room { result ≤ at + 12 }
 {
     out[at] = b' ';
     let a = print::put_decimal(out, at + 1, x);
@@ -35,68 +28,76 @@ fn put_vertex(out: &mut [u8], at: usize, x: u16, y: u16) -> usize
     print::put_decimal(out, a + 1, y)
 }
 
-// The vertices from place `from` of the list.
-fn put_vertices(out: &mut [u8], at: usize, list: &[u16], from: usize, count: usize) -> usize
-    requires fact_1 { from + 2 * count ≤ length list.now }
-    requires fact_2 { at + 12 * count ≤ length out.old }
-    ensures { result ≤ at + 12 * count }
+// The vertices of a piece.
+fn put_vertices(out: &mut [u8], at: usize, vertices: &[u16]) -> usize
+    requires { at + 12 * (length vertices.now / 2) ≤ length out.old }
+    ensures { result ≤ at + 12 * (length vertices.now / 2) }
 {
-    let mut i: usize = 0;
     let mut to = at;
-    while i < count {
-        let j = from + 2 * i;
-        to = put_vertex(out, to, list[j], list[j + 1]);
-        i += 1;
+    for v in vertices.chunks_exact(2) {
+        to = put_vertex(out, to, v[0], v[1]);
     }
     to
 }
 
-// The line of the piece of `count` vertices at place a of the list.
-fn put_piece(out: &mut [u8], at: usize, list: &[u16], a: usize, count: usize) -> usize
-    requires { PieceRoom (length list.now) a count (length out.old) at }
-    ensures { result ≤ length out.new }
-{
-    let b = print::put_words(out, at, b"piece", &[list[a + 1]]);
-    let c = put_vertices(out, b, list, a + 2, count);
-    print::end_line(out, c)
+// A piece of a cut list: the words of its vertices are their x and y in turn.
+#[derive(Clone, Copy)]
+struct Piece<'a> {
+    mask: u16,
+    vertices: &'a [u16],
+    ghost counted: { length vertices.now ≤ 131070 },
 }
 
-// The number of vertices of the piece at place a of the list, if the list has its words and the output has room for its line from
-// place `at`, else 0.
-fn vertices_at(list: &[u16], a: usize, room: usize, at: usize) -> usize
-    requires { at ≤ room }
-    ensures { RoomOf (length list.now) a result room at }
+// The line of a piece, if there is room for it.
+fn put_piece(out: &mut [u8], at: usize, piece: Piece) -> Option<usize>
+    requires { at ≤ length out.old }
+    ensures { IfSome result (λ r. r ≤ length out.new) }
 {
-    if list.len() <= a {
-        return 0;
+    let count = piece.vertices.len() / 2;
+    if out.len() - at < PIECE_ROOM + VERTEX_ROOM * count {
+        return None;
     }
-    let n = wide(list[a]);
-    if list.len() - a < 2 + 2 * n {
-        return 0;
-    }
-    if room - at < PIECE_ROOM + VERTEX_ROOM * n {
-        return 0;
-    }
-    n
+    let a = print::put_words(out, at, b"piece", &[piece.mask]);
+    let b = put_vertices(out, a, piece.vertices);
+    Some(print::end_line(out, b))
 }
 
-// The lines of the pieces of the list.
+// The piece at the start of a list's words, and the words after it, if they hold one.
+fn split_piece(words: &[u16]) -> Option<(Piece<'_>, &[u16])> {
+    let [count, mask, rest @ ..] = words else {
+        return None;
+    };
+    let n = 2 * usize::from(*count);
+    if rest.len() < n {
+        return None;
+    }
+    let (vertices, after) = rest.split_at(n);
+    Some((
+        Piece {
+            mask: *mask,
+            vertices,
+        },
+        after,
+    ))
+}
+
+// The lines of the pieces of a cut list, as far as there is room.
 fn put_pieces(out: &mut [u8], at: usize, list: &[u16]) -> usize
-    requires fact_1 { 1 ≤ length list.now }
-    requires fact_2 { at ≤ length out.old }
+    requires list { 1 ≤ length list.now }
+    requires room { at ≤ length out.old }
     ensures { result ≤ length out.new }
 {
-    let mut a: usize = 1;
-    let mut left = list[0];
+    let mut rest = &list[1..];
     let mut to = at;
-    while 0 < left {
-        let n = vertices_at(list, a, out.len(), to);
-        if n == 0 {
-            return to;
-        }
-        to = put_piece(out, to, list, a, n);
-        a += 2 + 2 * n;
-        left -= 1;
+    for _ in 0..list[0] {
+        let Some((piece, after)) = split_piece(rest) else {
+            break;
+        };
+        let Some(end) = put_piece(out, to, piece) else {
+            break;
+        };
+        to = end;
+        rest = after;
     }
     to
 }
@@ -133,7 +134,6 @@ pub fn show_text(input: &[u8], out: &mut [u8]) -> usize
         return 0;
     }
     let mut list = [0u16; numbers::LIST_WORDS];
-    let f = gapline::front_of(input);
-    let from = f.sheet;
-    show_lent(&input[from..], f.gap, &mut list, out)
+    let front = gapline::front_of(input);
+    show_lent(&input[front.sheet..], front.gap, &mut list, out)
 }

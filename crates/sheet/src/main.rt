@@ -2,7 +2,6 @@
 #![tactic(auto)]
 
 use std::io;
-use typed::Made;
 
 // One byte more than a text may have, so that longer input is noticed.
 const INPUT: usize = 262145;
@@ -19,12 +18,12 @@ fn write_gap(rt: &HostRuntime, gap: u16) -> io::Result<()> {
 fn run(rt: &HostRuntime, input: &mut [u8], output: &mut [u8], notes: &mut [u8]) -> io::Result<()> {
     let n = streams::read_full(&mut rt.stdin(), input)?;
     match typed::sheet_of(rt, &input[..n], output, notes) {
-        Made::Sheet(r, m, gap) => {
-            write_gap(rt, gap)?;
-            rt.write_all(&output[..r])?;
-            rt.stderr().write_all(&notes[..m])
+        Ok(sheet) => {
+            write_gap(rt, sheet.gap)?;
+            rt.write_all(&output[..sheet.bytes])?;
+            rt.stderr().write_all(&notes[..sheet.notes])
         }
-        Made::Message(r) => rt.stderr().write_all(&output[..r]),
+        Err(n) => rt.stderr().write_all(&output[..n]),
     }
 }
 

@@ -21,12 +21,11 @@ use Rattle.defs.specs.Computing.Lay.{entries_words, lay_entries, lay_answer, lay
 use Rattle.defs.specs.Computing.Text.{spaced, line, entry_lines, program_strip, program_work, totals_line, lay_text}
 use Rattle.laws.proofs.Tests.{asked}
 use Rattle.laws.proofs.Questions.{question_2}
-use Rattle.laws.proofs.Granted.{no_grant}
 use Rattle.sheets.proofs.Asking.{some_none}
 use Rattle.sheets.proofs.Passing.{few_read}
 use Rattle.sheets.proofs.Answers.{said, figures_of, not_refused}
 use Rattle.words.specs.Put.{Put}
-use Rattle.layout.specs.Lines.{four_lines, laid_lines, LaidFits}
+use Rattle.layout.specs.Lines.{entries_lines, laid_lines, LaidFits}
 use Rattle.lent.specs.Strips.{StripFor, exact, early, StripWords}
 use Rattle.text.specs.Lent.{Answered, Passes, Shows}
 use Rattle.print.proofs.Puts.{put_long, spaced_few}
@@ -42,6 +41,9 @@ module _ (s : List ℕ) {b : List ℕ} {n : ℕ} (w : StripWords b n) (l : lengt
   part_serves = rw part_long w.serves
 
 -- the answer
+
+lay_refused : {t : Totals} (r : Refusal) → ¬ (Err r ≡ Ok t)
+lay_refused r e = let z : ◌≡◌ {A = ℕ} 0 1 = cc in omega arith
 
 -- the first "no" decides the answer
 answer_no : (b : List ℕ) (strip out work : ℕ) (r : Refusal) → sheet_no b true (lengthb (sheet_n b) strip) ≡ Some r →
@@ -59,7 +61,7 @@ same_answer {b} {n} out work (early r h) =
 laid_strip : {b : List ℕ} {n : ℕ} (out work : ℕ) {t : Totals} → StripFor b n → Ok t ≡ lay_answer b 0 n out work → n ≡ program_strip b
 laid_strip out work (exact e) l = e
 laid_strip {b} {n} out work (early r h) l =
-    absurd (no_grant (sym (answer_no b n out work r (h (lengthb (sheet_n b) n))) ∙ sym l))
+    absurd (lay_refused r (sym (answer_no b n out work r (h (lengthb (sheet_n b) n))) ∙ sym l))
 
 pub answered : {b s out work s' out' work' : List ℕ} {a : Result Totals Refusal} → LayStep b 0 s out work a s' out' work' →
     StripFor b (length s) → length out ≡ 4 * most_pieces → length work ≡ program_work → Answered b out' a
@@ -92,7 +94,7 @@ pub laid_passes : {b ws : List ℕ} {t : Totals} → Answered b ws (Ok t) → Pa
 unfolding lay_answer gapb
 laid_passes {b} s =
     let fourth = lengthb (sheet_n b) (program_strip b) in
-    passes fourth (not_refused (sheet_no b true fourth) (sym s.answer) (λ r. no_grant)).0
+    passes fourth (not_refused (sheet_no b true fourth) (sym s.answer) lay_refused).0
 
 pieces_long : (b : List ℕ) → length (sheet_pieces b) ≡ length (piece_records b)
 unfolding sheet_pieces
@@ -154,8 +156,8 @@ module _ {b ws : List ℕ} {t : Totals} {n : ℕ} (s : Answered b ws (Ok t)) (e 
         strip_few (sheet_w b) (sheet_r b) (sheet_n b),
         lines_few ws 0 n,
         totals_few t,
-        length-append (line "strip" (sheet_w b ∷ sheet_r b ∷ sheet_n b ∷ [])) (four_lines ws 0 n ++ totals_line t),
-        length-append (four_lines ws 0 n) (totals_line t),
+        length-append (line "strip" (sheet_w b ∷ sheet_r b ∷ sheet_n b ∷ [])) (entries_lines ws 0 n ++ totals_line t),
+        length-append (entries_lines ws 0 n) (totals_line t),
       )
 
   pub laid_shows : {f : Figures} {out out' : List ℕ} {r : ℕ} → 8192 ≤ length out → f ≡ figures_of b → Put out out' 0 (laid_lines f ws n t) r → Shows b out' r

@@ -9,6 +9,7 @@ ghost use Rattle.text.specs.Lent.{Answered, Passes, Shows};
 
 use defs::{Refusal, Totals};
 
+
 // The text of every job fits.
 pub const ROOM: usize = 8192;
 
@@ -25,8 +26,8 @@ fn pieces_of(sheet: &[u8]) -> usize
 
 // What is printed of an answer and its output.
 fn put_answer(sheet: &[u8], words: &[u16], a: Result<Totals, Refusal>, out: &mut [u8]) -> usize
-    requires fact_1 { Answered sheet.now words.now a }
-    requires fact_2 { 8192 ≤ length out.old }
+    requires answered { Answered sheet.now words.now a }
+    requires room { 8192 ≤ length out.old }
     ensures { Shows sheet.now out.new result }
 {
     match a {
@@ -46,10 +47,10 @@ fn lay_lent(
     work: &mut [u16],
     out: &mut [u8],
 ) -> usize
-    requires fact_1 { StripFor sheet.now (length strip.old) }
-    requires fact_2 { length words.old ≡ 800 }
-    requires fact_3 { length work.old ≡ 9000 }
-    requires fact_4 { 8192 ≤ length out.old }
+    requires serves { StripFor sheet.now (length strip.old) }
+    requires entries { length words.old ≡ 800 }
+    requires work { length work.old ≡ 9000 }
+    requires room { 8192 ≤ length out.old }
     ensures { Shows sheet.now out.new result }
 {
     let a = laying::lay(sheet, 0, strip, words, work);
@@ -58,8 +59,8 @@ fn lay_lent(
 
 // Lends output and work buffer.
 fn lay_strip(sheet: &[u8], strip: &mut [u16], out: &mut [u8]) -> usize
-    requires fact_1 { StripFor sheet.now (length strip.old) }
-    requires fact_2 { 8192 ≤ length out.old }
+    requires serves { StripFor sheet.now (length strip.old) }
+    requires room { 8192 ≤ length out.old }
     ensures { Shows sheet.now out.new result }
 {
     let mut words = [0u16; lent::ENTRIES];
@@ -69,8 +70,8 @@ fn lay_strip(sheet: &[u8], strip: &mut [u16], out: &mut [u8]) -> usize
 
 // Lends as much of the strip as the sheet is to have.
 fn lay_part(sheet: &[u8], strip: &mut [u16], out: &mut [u8]) -> usize
-    requires fact_1 { length strip.old ≡ 20101 }
-    requires fact_2 { 8192 ≤ length out.old }
+    requires whole { length strip.old ≡ 20101 }
+    requires room { 8192 ≤ length out.old }
     ensures { Shows sheet.now out.new result }
 {
     let n = lent::strip_words(sheet);

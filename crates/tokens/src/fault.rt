@@ -1,47 +1,58 @@
-// What is wrong with a text, as the number of its message: a line of the messages of crate typed, counted from 0.
+// What is wrong with a text.
 
-pub type Fault = u8;
+#[derive(Clone, Copy, Debug, PartialEq, Eq)]
+pub enum Fault {
+    Word,
+    Number,
+    Large,
+    Decimals,
+    Eighth,
+    Comma,
+    Alone,
+    Figures,
+    Twice,
+    First,
+    Vertices,
+    Pieces,
+    Lines,
+    NoStrip,
+    Long,
+    Name,
+    Unread,
+    Shape,
+    Coordinate,
+    Gap,
+    Gaps,
+    GapFirst,
+}
 
-pub const WORD: Fault = 0;
-
-pub const NUMBER: Fault = 1;
-
-pub const LARGE: Fault = 2;
-
-pub const DECIMALS: Fault = 3;
-
-pub const EIGHTH: Fault = 4;
-
-pub const COMMA: Fault = 5;
-
-pub const ALONE: Fault = 6;
-
-pub const FIGURES: Fault = 7;
-
-pub const TWICE: Fault = 8;
-
-pub const FIRST: Fault = 9;
-
-pub const VERTICES: Fault = 10;
-
-pub const PIECES: Fault = 11;
-
-pub const LINES: Fault = 12;
-
-pub const NO_STRIP: Fault = 13;
-
-pub const LONG: Fault = 14;
-
-pub const NAME: Fault = 15;
-
-pub const UNREAD: Fault = 16;
-
-pub const SHAPE: Fault = 17;
-
-pub const COORDINATE: Fault = 18;
-
-pub const GAP: Fault = 19;
-
-pub const GAPS: Fault = 20;
-
-pub const GAP_FIRST: Fault = 21;
+impl Fault {
+    pub fn message(self) -> &'static str {
+        match self {
+            Fault::Word => "a line begins with strip, gap, piece, path or mm",
+            Fault::Number => "a number is expected",
+            Fault::Large => "a number is at most 65535 units",
+            Fault::Decimals => "one to three digits follow a point",
+            Fault::Eighth => "a length is a multiple of 0.125 mm",
+            Fault::Comma => "a vertex is x,y",
+            Fault::Alone => "nothing follows mm",
+            Fault::Figures => "a strip has width, resolution and columns",
+            Fault::Twice => "there is one strip",
+            Fault::First => "the strip comes before the pieces",
+            Fault::Vertices => "a piece has 3 to 64 vertices",
+            Fault::Pieces => "a job has at most 200 pieces",
+            Fault::Lines => "a text has at most 65535 lines",
+            Fault::NoStrip => "there is no strip",
+            Fault::Long => "a text has at most 262144 bytes",
+            Fault::Name => "a path has a mask and the name of a file",
+            Fault::Unread => "the file of the path cannot be read or is empty",
+            Fault::Shape => "the path is not one move, 2 to 63 lines and one close",
+            Fault::Coordinate => {
+                "a coordinate of the path is not a multiple of 0.125 mm from 0 to 2000 mm"
+            }
+            Fault::Gap => "a gap is one length from 0 to 50 mm",
+            Fault::Gaps => "there is one gap",
+            Fault::GapFirst => "the gap comes before the pieces",
+        }
+    }
+}

@@ -1,282 +1,189 @@
-// Parts of a text: lines, comments, blanks, words, numbers, vertices.
+// Parts of a text: lines, comments, and of a line its words, numbers, lengths and vertices.
 #![tactic(auto)]
 
-ghost use Rattle.std.specs.Prelude.{◌≤◌, ◌<◌, max, length};
-ghost use Rattle.tokens.specs.Few.{Few};
+ghost use Rattle.std.specs.Prelude.{◌^◌, ◌≤◌, ◌<◌, length, IfOk};
 
 use fault::Fault;
 
 pub mod fault;
 
-// A number that has grown to this is too large whatever digits follow.
-const ENOUGH: u64 = 100000;
-
-const MOST_NUMBER: u64 = 65535;
-
 // Thousandths of a millimetre in a unit.
-const UNIT: u64 = 125;
+const EIGHTH: u64 = 125;
 
-fn blank(b: u8) -> bool {
-    match b {
-        b' ' | b'\t' | b'\r' | b'\n' => true,
-        _ => false,
+// The place after the first line of a text.
+pub fn line_end(text: &[u8]) -> usize
+    ensures moves { 0 < length text.now → 0 < result }
+    ensures within { result ≤ length text.now }
+{
+    match text.iter().position(|b| *b == b'\n') {
+        Some(i) => i + 1,
+        None => text.len(),
     }
 }
 
-// The first place from `at` on whose byte is a blank, or is none, else the end of the line.
-fn find(line: &[u8], at: usize, a_blank: bool) -> usize
-    ensures fact_1 { at ≤ result }
-    ensures fact_2 { result ≤ max at (length line.now) }
-{
-    let mut i = at;
-    while i < line.len() {
-        if blank(line[i]) == a_blank {
-            return i;
+pub fn without_comment(line: &[u8]) -> &[u8] {
+    let end = line.iter().position(|b| *b == b'#').unwrap_or(line.len());
+    &line[..end]
+}
+
+fn is_blank(b: u8) -> bool {
+    matches!(b, b' ' | b'\t' | b'\r' | b'\n')
+}
+
+// The number that digits say, or the largest of its type if that is less.
+fn value_of(digits: &[u8]) -> u32 {
+    let mut value: u32 = 0;
+    for b in digits {
+        let digit = u32::from(b & 0xf);
+        value = value.saturating_mul(10).saturating_add(digit);
+    }
+    value
+}
+
+// What lengths are written in.
+#[derive(Clone, Copy, Debug, PartialEq, Eq)]
+pub enum Unit {
+    Eighth,
+    Millimetre,
+}
+
+#[derive(Clone, Copy, Debug, PartialEq, Eq)]
+pub struct Vertex {
+    pub x: u16,
+    pub y: u16,
+}
+
+// A line that is read from left to right.
+#[derive(Clone, Copy, Debug)]
+pub struct Scanner<'a> {
+    rest: &'a [u8],
+}
+
+impl<'a> Scanner<'a> {
+    pub fn new(line: &'a [u8]) -> Self {
+        Scanner { rest: line }
+    }
+
+    // The bytes up to the first that does not pass.
+    fn take_while<F: Fn(u8) -> bool>(&mut self, passes: F) -> &'a [u8]
+        requires { F.IsAlwaysCallable passes }
+    {
+        let rest = self.rest;
+        let end = rest.iter().position(|b| !passes(*b)).unwrap_or(rest.len());
+        self.rest = &rest[end..];
+        &rest[..end]
+    }
+
+    fn skip_blanks(&mut self) {
+        let _ = self.take_while(is_blank);
+    }
+
+    // Whether only blanks are left. They are skipped.
+    pub fn is_at_end(&mut self) -> bool {
+        self.skip_blanks();
+        self.rest.is_empty()
+    }
+
+    // The bytes before the next blank.
+    pub fn word(&mut self) -> &'a [u8] {
+        self.take_while(|b| !is_blank(b))
+    }
+
+    // All that is left, without the blanks at its ends.
+    pub fn remainder(&mut self) -> &'a [u8] {
+        self.skip_blanks();
+        let rest = self.rest;
+        self.rest = b"";
+        let end = rest
+            .iter()
+            .rposition(|b| !is_blank(*b))
+            .map_or(0, |i| i + 1);
+        &rest[..end]
+    }
+
+    // Whether the next byte is this one, which is then skipped.
+    fn skip(&mut self, byte: u8) -> bool {
+        match self.rest {
+            [first, rest @ ..] if *first == byte => {
+                self.rest = rest;
+                true
+            }
+            _ => false,
         }
-        i += 1;
     }
-    i
-}
 
-// The first place from `at` on that has no blank, else the end of the line.
-pub fn skip_blanks(line: &[u8], at: usize) -> usize
-    ensures { (at ≤ result) × (result ≤ max at (length line.now)) }
-{
-    find(line, at, false)
-}
+    // The digits that are next, which may be none.
+    fn digits(&mut self) -> &'a [u8] {
+        self.take_while(|b| b.is_ascii_digit())
+    }
 
-// The end of the word at place `at`: the first blank, else the end of the line.
-pub fn word_end(line: &[u8], at: usize) -> usize
-    ensures { (at ≤ result) × (result ≤ max at (length line.now)) }
-{
-    find(line, at, true)
-}
-
-// The place after the last byte from `at` on that is no blank, else `at`.
-pub fn last_end(line: &[u8], at: usize) -> usize
-    ensures fact_1 { at ≤ result }
-    ensures fact_2 { result ≤ max at (length line.now) }
-{
-    let mut e = line.len();
-    while at < e {
-        if !blank(line[e - 1]) {
-            return e;
+    // The number that is next.
+    fn whole(&mut self) -> Result<u32, Fault> {
+        let digits = self.digits();
+        if digits.is_empty() {
+            return Err(Fault::Number);
         }
-        e -= 1;
+        Ok(value_of(digits))
     }
-    at
-}
 
-// Where a comment begins from place `from` on and before place `to`, else `to`.
-pub fn comment(text: &[u8], from: usize, to: usize) -> usize
-    requires fact_1 { from ≤ to }
-    requires fact_2 { to ≤ length text.now }
-    ensures fact_1 { from ≤ result }
-    ensures fact_2 { result ≤ to }
-{
-    let mut i = from;
-    while i < to {
-        if text[i] == b'#' {
-            return i;
+    // The one to three digits after a point, in thousandths.
+    fn decimals(&mut self) -> Result<u64, Fault>
+        ensures { IfOk result (λ n. n < 2 ^ 40) }
+    {
+        let digits = self.digits();
+        let value = u64::from(value_of(digits));
+        match digits.len() {
+            1 => Ok(100 * value),
+            2 => Ok(10 * value),
+            3 => Ok(value),
+            _ => Err(Fault::Decimals),
         }
-        i += 1;
     }
-    i
-}
 
-// The place after the line that begins at place `at`.
-pub fn line_end(text: &[u8], at: usize) -> usize
-    requires { at < length text.now }
-    ensures fact_1 { at < result }
-    ensures fact_2 { result ≤ length text.now }
-{
-    let mut i = at;
-    while i < text.len() {
-        if text[i] == b'\n' {
-            return i + 1;
+    // The number of millimetres that is next, in units.
+    fn millimetres(&mut self) -> Result<u16, Fault> {
+        let mut thousandths = 1000 * u64::from(self.whole()?);
+        if self.skip(b'.') {
+            thousandths += self.decimals()?;
         }
-        i += 1;
-    }
-    i
-}
-
-pub fn same(a: &[u8], b: &[u8]) -> bool {
-    if a.len() != b.len() {
-        return false;
-    }
-    let mut i: usize = 0;
-    while i < a.len() {
-        if a[i] != b[i] {
-            return false;
+        if thousandths % EIGHTH != 0 {
+            return Err(Fault::Eighth);
         }
-        i += 1;
+        u16::try_from(thousandths / EIGHTH).map_err(|_| Fault::Large)
     }
-    true
-}
 
-// The value of a digit, 10 of any other byte.
-fn digit(b: u8) -> u64
-    ensures { result ≤ 10 }
-{
-    if b < b'0' {
-        return 10;
+    // The number of units that is next.
+    fn units(&mut self) -> Result<u16, Fault> {
+        u16::try_from(self.whole()?).map_err(|_| Fault::Large)
     }
-    if b'9' < b {
-        return 10;
-    }
-    (b - b'0') as u64
-}
 
-// The number with one more digit.
-fn grown(n: u64, d: u64) -> u64
-    requires { (n ≤ 999999) × (d < 10) }
-    ensures { result ≤ 999999 }
-{
-    if ENOUGH <= n {
-        return n;
-    }
-    10 * n + d
-}
-
-#[derive(Clone, Copy)]
-pub struct Value {
-    pub value: u64,
-    pub next: usize,
-}
-
-// The digits from place `at` on, which may be none, and the place after them.
-fn digits(line: &[u8], at: usize) -> Value
-    ensures fact_1 { result.value ≤ 999999 }
-    ensures fact_2 { at ≤ result.next }
-{
-    let mut value: u64 = 0;
-    let mut i = at;
-    while i < line.len() {
-        let d = digit(line[i]);
-        if 10 <= d {
-            return Value { value, next: i };
+    // The length that is next, in units.
+    fn coordinate(&mut self, unit: Unit) -> Result<u16, Fault> {
+        match unit {
+            Unit::Eighth => self.units(),
+            Unit::Millimetre => self.millimetres(),
         }
-        value = grown(value, d);
-        i += 1;
     }
-    Value { value, next: i }
-}
 
-// A number and the place after it.
-#[derive(Clone, Copy)]
-pub enum Number {
-    Is(u16, usize),
-    Bad(Fault),
-}
+    // The number that follows blanks.
+    pub fn number(&mut self) -> Result<u16, Fault> {
+        self.skip_blanks();
+        self.units()
+    }
 
-// A number in units.
-fn whole(line: &[u8], at: usize) -> Number {
-    let d = digits(line, at);
-    if d.next <= at {
-        return Number::Bad(fault::NUMBER);
+    // The length that follows blanks, in units.
+    pub fn length(&mut self, unit: Unit) -> Result<u16, Fault> {
+        self.skip_blanks();
+        self.coordinate(unit)
     }
-    if MOST_NUMBER < d.value {
-        return Number::Bad(fault::LARGE);
-    }
-    Number::Is(d.value as u16, d.next)
-}
 
-#[derive(Clone, Copy)]
-pub enum Decimals {
-    // in thousandths, with the place after them
-    Are(u64, usize),
-    Bad,
-}
-
-// One to three digits after a point.
-fn decimals_of(value: u64, count: usize, next: usize) -> Decimals
-    requires { value ≤ 999999 }
-    ensures { Few result }
-{
-    match count {
-        1 => Decimals::Are(100 * value, next),
-        2 => Decimals::Are(10 * value, next),
-        3 => Decimals::Are(value, next),
-        _ => Decimals::Bad,
-    }
-}
-
-// The digits after a point at place `at`: 0 where there is no point.
-fn thousandths(line: &[u8], at: usize) -> Decimals
-    ensures { Few result }
-{
-    if line.len() <= at {
-        return Decimals::Are(0, at);
-    }
-    if line[at] != b'.' {
-        return Decimals::Are(0, at);
-    }
-    let from = at + 1;
-    let d = digits(line, from);
-    decimals_of(d.value, d.next - from, d.next)
-}
-
-// A number of thousandths of a millimetre, in units.
-fn units(n: u64, next: usize) -> Number {
-    if n % UNIT != 0 {
-        return Number::Bad(fault::EIGHTH);
-    }
-    if MOST_NUMBER < n / UNIT {
-        return Number::Bad(fault::LARGE);
-    }
-    Number::Is((n / UNIT) as u16, next)
-}
-
-// A number in millimetres.
-fn millimetres(line: &[u8], at: usize) -> Number {
-    let d = digits(line, at);
-    if d.next <= at {
-        return Number::Bad(fault::NUMBER);
-    }
-    match thousandths(line, d.next) {
-        Decimals::Are(n, next) => units(1000 * d.value + n, next),
-        Decimals::Bad => Number::Bad(fault::DECIMALS),
-    }
-}
-
-// The number at place `at`.
-fn number_at(line: &[u8], at: usize, mm: bool) -> Number {
-    if mm {
-        return millimetres(line, at);
-    }
-    whole(line, at)
-}
-
-// The number that follows from place `at` on.
-pub fn next_number(line: &[u8], at: usize, mm: bool) -> Number {
-    number_at(line, skip_blanks(line, at), mm)
-}
-
-// The two numbers of a vertex, and the first place after it that has no blank.
-#[derive(Clone, Copy)]
-pub enum Vertex {
-    Is(u16, u16, usize),
-    Bad(Fault),
-}
-
-// The comma at place `at`, and y after it.
-fn after_x(line: &[u8], at: usize, mm: bool, x: u16) -> Vertex {
-    if line.len() <= at {
-        return Vertex::Bad(fault::COMMA);
-    }
-    if line[at] != b',' {
-        return Vertex::Bad(fault::COMMA);
-    }
-    match number_at(line, at + 1, mm) {
-        Number::Is(y, next) => Vertex::Is(x, y, skip_blanks(line, next)),
-        Number::Bad(f) => Vertex::Bad(f),
-    }
-}
-
-// The vertex at place `at`.
-pub fn vertex_at(line: &[u8], at: usize, mm: bool) -> Vertex {
-    match number_at(line, at, mm) {
-        Number::Is(x, next) => after_x(line, next, mm, x),
-        Number::Bad(f) => Vertex::Bad(f),
+    // The vertex that is next: two lengths with a comma between them.
+    pub fn vertex(&mut self, unit: Unit) -> Result<Vertex, Fault> {
+        let x = self.coordinate(unit)?;
+        if !self.skip(b',') {
+            return Err(Fault::Comma);
+        }
+        let y = self.coordinate(unit)?;
+        Ok(Vertex { x, y })
     }
 }

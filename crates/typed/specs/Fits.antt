@@ -1,10 +1,8 @@
--- That what is made has room.
+-- That a sheet and its notes are within their buffers.
 -- Assumes nothing.
 use Rattle.std.specs.Prelude.{ℕ, ◌≤◌}
-use Rattle.typed.specs.declared.Made.{Made}
-use Rattle.typed.specs.declared.Made.TheVariants.{Sheet, Message}
+use Rattle.typed.specs.declared.Sheet.{Sheet}
 
--- in so many bytes of output, and of notes
-abbrev pub Fits : Made → ℕ → ℕ → Type 0
-Fits (Sheet n m gap) bytes notes = (n ≤ bytes) × (m ≤ notes)
-Fits (Message n) bytes notes = n ≤ bytes
+-- of so many bytes of output, and of notes
+abbrev pub Fits : Sheet → ℕ → ℕ → Type 0
+Fits s bytes notes = (s.bytes ≤ bytes) × (s.notes ≤ notes)

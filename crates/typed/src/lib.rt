@@ -1,158 +1,98 @@
 // The sheet of a text that a person typed, with notes on what it draws twice, or what is wrong with the text.
 #![tactic(auto)]
 
-ghost use Rattle.std.specs.Prelude.{◌+◌, ◌≤◌, length};
+ghost use Rattle.std.specs.Prelude.{◌+◌, ◌≤◌, length, IfOk, IfErr};
 ghost use Rattle.typed.specs.Fits.{Fits};
 
 use defs::Refusal;
-use lines::{Job, Text};
+use lines::{Job, Misread};
 use std::fs::Files;
 use tokens::fault::Fault;
 
-// The place of line n of the text, counted from 0, else the end of the text.
-fn line_start(text: &[u8], n: usize) -> usize
-    ensures { result ≤ length text.now }
-{
-    let mut at: usize = 0;
-    let mut left = n;
-    while 0 < left {
-        if text.len() <= at {
-            return at;
-        }
-        at = tokens::line_end(text, at);
-        left -= 1;
-    }
-    at
+// What stands at the start of the buffers: the bytes of a sheet and of the notes on it; and the gap of its job.
+#[derive(Clone, Copy, Debug, PartialEq, Eq)]
+pub struct Sheet {
+    pub bytes: usize,
+    pub notes: usize,
+    pub gap: u16,
 }
 
-// Line n of the text, if there is room for it.
-fn put_line(out: &mut [u8], at: usize, text: &[u8], n: usize) -> usize
-    requires { at ≤ length out.old }
-    ensures { result ≤ length out.new }
-{
-    let a = line_start(text, n);
-    if text.len() <= a {
-        return at;
-    }
-    let e = tokens::line_end(text, a);
-    if out.len() - at < e - a {
-        return at;
-    }
-    print::put(out, at, &text[a..e])
-}
-
-fn put_fault(out: &mut [u8], at: usize, f: Fault) -> usize
-    requires { at ≤ length out.old }
-    ensures { result ≤ length out.new }
-{
-    put_line(
-        out,
-        at,
-        b"a line begins with strip, gap, piece, path or mm
-a number is expected
-a number is at most 65535 units
-one to three digits follow a point
-a length is a multiple of 0.125 mm
-a vertex is x,y
-nothing follows mm
-a strip has width, resolution and columns
-there is one strip
-the strip comes before the pieces
-a piece has 3 to 64 vertices
-a job has at most 200 pieces
-a text has at most 65535 lines
-there is no strip
-a text has at most 262144 bytes
-a path has a mask and the name of a file
-the file of the path cannot be read or is empty
-the path is not one move, 2 to 63 lines and one close
-a coordinate of the path is not a multiple of 0.125 mm from 0 to 2000 mm
-a gap is one length from 0 to 50 mm
-there is one gap
-the gap comes before the pieces
-",
-        f as usize,
-    )
-}
-
-// The number of a line before what is wrong with it; nothing of line 0.
-fn put_number(out: &mut [u8], line: u16) -> usize
-    requires { 128 ≤ length out.old }
-    ensures { result ≤ length out.new }
-{
-    if line == 0 {
-        return 0;
-    }
-    let a = print::put_words(out, 0, b"line", &[line]);
-    print::put(out, a, b": ")
-}
-
-// Bytes at the start of the output: of a sheet, with the bytes of the notes on it and the job's gap, or of a message.
+// Why a text gives no sheet: it cannot be read, or its job cannot be written. That is told with the line that it is about, or 0.
 #[derive(Clone, Copy)]
-pub enum Made {
-    Sheet(usize, usize, u16),
-    Message(usize),
+enum Failure {
+    Misread(Misread),
+    Refused(Refusal, u16),
 }
 
-// What is wrong, after the number of its line if that is not 0.
-fn put_message(out: &mut [u8], f: Fault, line: u16) -> Made
-    requires { 128 ≤ length out.old }
-    ensures { Fits result (length out.new) 0 }
-{
-    let a = put_number(out, line);
-    Made::Message(put_fault(out, a, f))
+impl From<Misread> for Failure {
+    fn from(m: Misread) -> Failure {
+        Failure::Misread(m)
+    }
 }
 
-// The end of a refusal: the number of its line if that is not 0.
-fn put_place(out: &mut [u8], at: usize, line: u16) -> usize
-    requires { at + 14 ≤ length out.old }
+// What is wrong, to the end of the line, if there is room for it.
+fn put_fault(out: &mut [u8], at: usize, fault: Fault) -> usize
+    requires { at ≤ length out.old }
     ensures { result ≤ length out.new }
 {
-    if line == 0 {
-        return print::end_line(out, at);
+    let message = fault.message().as_bytes();
+    if out.len() - at <= message.len() {
+        return at;
     }
-    let a = print::put_words(out, at, b" (line", &[line]);
-    print::put(out, a, b")\n")
+    let end = print::put(out, at, message);
+    print::end_line(out, end)
 }
 
-fn put_refused(out: &mut [u8], r: Refusal, line: u16) -> Made
+// What is wrong with a text, after the number of its line.
+fn put_misread(out: &mut [u8], m: Misread) -> usize
     requires { 128 ≤ length out.old }
-    ensures { Fits result (length out.new) 0 }
+    ensures { result ≤ length out.new }
+{
+    if m.line == 0 {
+        return put_fault(out, 0, m.fault);
+    }
+    let a = print::put_words(out, 0, b"line", &[m.line]);
+    let b = print::put(out, a, b": ");
+    put_fault(out, b, m.fault)
+}
+
+// A refusal, and after it the number of its line.
+fn put_refused(out: &mut [u8], r: Refusal, line: u16) -> usize
+    requires { 128 ≤ length out.old }
+    ensures { result ≤ length out.new }
 {
     let a = print::put_refusal(out, r);
-    Made::Message(put_place(out, a, line))
+    if line == 0 {
+        return print::end_line(out, a);
+    }
+    let b = print::put_words(out, a, b" (line", &[line]);
+    print::put(out, b, b")\n")
+}
+
+fn put_failure(out: &mut [u8], f: Failure) -> usize
+    requires { 128 ≤ length out.old }
+    ensures { result ≤ length out.new }
+{
+    match f {
+        Failure::Misread(m) => put_misread(out, m),
+        Failure::Refused(r, line) => put_refused(out, r, line),
+    }
 }
 
 // The line of a piece, 0 where there is none.
 fn piece_line(ordinal: u16, lines: &[u16]) -> u16 {
-    if ordinal == 0 {
+    let Some(k) = usize::from(ordinal).checked_sub(1) else {
         return 0;
-    }
-    let k = ordinal as usize - 1;
-    if lines.len() <= k {
-        return 0;
-    }
-    lines[k]
+    };
+    lines.get(k).copied().unwrap_or(0)
 }
 
 // The line that a refusal is about: of the strip for 3, 16 and 17, of the piece where there is one, else 0.
 fn refused_line(r: Refusal, strip: u16, lines: &[u16]) -> u16 {
-    let number = r.number;
-    match number {
+    match r.number {
         3 | 16 | 17 => strip,
         _ => piece_line(r.ordinal, lines),
     }
-}
-
-// A sheet of n bytes in so much room, with so many bytes of notes.
-fn sheet_within(n: u32, room: usize, noted: usize, gap: u16) -> Made
-    ensures { Fits result room noted }
-{
-    let bytes = n as usize;
-    if room < bytes {
-        return Made::Sheet(room, noted, gap);
-    }
-    Made::Sheet(bytes, noted, gap)
 }
 
 // The write call for a job whose pieces stand in the list.
@@ -160,24 +100,32 @@ fn write(job: Job, list: &mut [u16], out: &mut [u8]) -> Result<u32, Refusal>
     requires { 1 ≤ length list.old }
 {
     list[0] = job.pieces;
-    writes::write(job.width, job.resolution, job.columns, list, out)
+    let s = job.strip;
+    writes::write(s.width, s.resolution, s.columns, list, out)
 }
 
-// The sheet of a job that is written, and the notes on its pieces.
-fn sheet_of_job(job: Job, list: &mut [u16], lines: &[u16], out: &mut [u8], notes: &mut [u8]) -> Made
-    requires fact_1 { 1 ≤ length list.old }
-    requires fact_2 { 128 ≤ length out.old }
-    ensures { Fits result (length out.new) (length notes.new) }
+// The sheet of a job, and the notes on its pieces.
+fn sheet_of_job(
+    job: Job,
+    list: &mut [u16],
+    lines: &[u16],
+    out: &mut [u8],
+    notes: &mut [u8],
+) -> Result<Sheet, Failure>
+    requires { 1 ≤ length list.old }
+    ensures { IfOk result (λ s. Fits s (length out.new) (length notes.new)) }
 {
     match write(job, list, out) {
-        Ok(n) => {
-            let noted = notes::put_notes(notes, list, lines);
-            sheet_within(n, out.len(), noted, job.gap)
-        }
-        Err(r) => put_refused(out, r, refused_line(r, job.strip, lines)),
+        Ok(n) => Ok(Sheet {
+            bytes: out.len().min(n as usize),
+            notes: notes::put_notes(notes, list, lines),
+            gap: job.gap,
+        }),
+        Err(r) => Err(Failure::Refused(r, refused_line(r, job.strip.line, lines))),
     }
 }
 
+// The sheet of a text, on lent buffers for its cut list and the lines of its pieces.
 fn sheet_lent<R: Files>(
     rt: &R,
     text: &[u8],
@@ -185,25 +133,31 @@ fn sheet_lent<R: Files>(
     lines: &mut [u16],
     out: &mut [u8],
     notes: &mut [u8],
-) -> Made
-    requires fact_1 { 130 ≤ length list.old }
-    requires fact_2 { 128 ≤ length out.old }
-    ensures { Fits result (length out.new) (length notes.new) }
+) -> Result<Sheet, Failure>
+    requires { 130 ≤ length list.old }
+    ensures { IfOk result (λ s. Fits s (length out.new) (length notes.new)) }
 {
-    match lines::read_text(rt, text, list, lines) {
-        Text::Good(job) => sheet_of_job(job, list, lines, out, notes),
-        Text::Bad(f, line) => put_message(out, f, line),
-    }
+    let job = lines::read_text(rt, text, list, lines)?;
+    sheet_of_job(job, list, lines, out, notes)
 }
 
-// The sheet of a text with notes on its pieces, or a message.
-pub fn sheet_of<R: Files>(rt: &R, text: &[u8], out: &mut [u8], notes: &mut [u8]) -> Made
-    ensures { Fits result (length out.new) (length notes.new) }
+// The sheet of a text with notes on its pieces; or, at the start of the output, so many bytes of a message.
+pub fn sheet_of<R: Files>(
+    rt: &R,
+    text: &[u8],
+    out: &mut [u8],
+    notes: &mut [u8],
+) -> Result<Sheet, usize>
+    ensures sheet { IfOk result (λ s. Fits s (length out.new) (length notes.new)) }
+    ensures message { IfErr result (λ n. n ≤ length out.new) }
 {
     if out.len() < print::MESSAGE_ROOM {
-        return Made::Message(0);
+        return Err(0);
     }
     let mut list = [0u16; numbers::LIST_WORDS];
     let mut lines = [0u16; records::MOST_PIECES];
-    sheet_lent(rt, text, &mut list, &mut lines, out, notes)
+    match sheet_lent(rt, text, &mut list, &mut lines, out, notes) {
+        Ok(sheet) => Ok(sheet),
+        Err(failure) => Err(put_failure(out, failure)),
+    }
 }

@@ -6,14 +6,8 @@ use Rattle.layout.proofs.put_entries.Goals as goal
 pub loop-i-init : goal.loop-i-init
 loop-i-init c = list_start c.requires
 
-pub put_entry-to-requires : goal.put_entry-to-requires
-put_entry-to-requires c = omega (arith, c.loop-i.invariant.room, c.loop-i.invariant.putting.long)
-
 pub loop-i-preserved : goal.loop-i-preserved
-loop-i-preserved c = list_next c.loop-i.invariant (omega arith) c.put_entry-to.ensures
-
-pub shape_of-out : goal.shape_of-out
-shape_of-out c = c.loop-i.invariant.putting.long
+loop-i-preserved c = list_next c.loop-i.invariant (omega arith) (rw c.fate_at.ensures at c.put_entry-to.ensures)
 
 pub returns : goal.returns
 returns c = list_end c.loop-i.invariant (omega arith)

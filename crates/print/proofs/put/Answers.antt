@@ -1,14 +1,6 @@
--- The bytes still to put, stored where they go, give the whole. Assumes nothing.
-use mathlib.Core.Path.{refl}
-use native.Mathlib.Omega.{arith}
-use Rattle.words.proofs.Copying.{copy_next, copy_end, copy_start}
+-- The bytes that are copied stand where they go. Assumes nothing.
+use Rattle.print.proofs.Puts.{put_copied}
 use Rattle.print.proofs.put.Goals as goal
 
-pub loop-i-init : goal.loop-i-init
-loop-i-init c = copy_start _ _ _
-
-pub loop-i-preserved : goal.loop-i-preserved
-loop-i-preserved c = copy_next c.loop-i.invariant (omega arith)
-
 pub returns : goal.returns
-returns c = record { words = copy_end c.loop-i.invariant (omega arith); after = refl }
+returns c = put_copied c.copy_from_slice.ensures.after c.requires

@@ -1,32 +1,16 @@
 -- The digits from the last on, by what is left to spell. Assumes nothing.
 use native.Mathlib.Omega.{arith}
-use lib.ListN.{length-set}
-use Rattle.print.proofs.Puts.{spell_start, spell_more, spell_next, spell_end}
+use Rattle.print.proofs.Puts.{spell_start, spell_next, spell_end, spell_all}
 use Rattle.print.proofs.spell.Goals as goal
 
-pub overflow_sub-i : goal.overflow_sub-i
-overflow_sub-i c = c.requires.some
+pub loop-i-init : goal.loop-i-init
+loop-i-init c = spell_start c.args.n c.args.text.now
 
-pub bounds-text-i : goal.bounds-text-i
-bounds-text-i c = omega (arith, c.requires.some)
+pub returns-then-rest-lt10 : goal.returns-then-rest-lt10
+returns-then-rest-lt10 c = spell_end c.loop-i.invariant (omega arith) (omega arith) c.digit.ensures (omega arith)
 
-pub loop-rest-init : goal.loop-rest-init
-loop-rest-init c = simp length-set (spell_start c.args.text.now c.requires c.digit.ensures)
-
-pub overflow_sub-i-in-loop-rest : goal.overflow_sub-i-in-loop-rest
-overflow_sub-i-in-loop-rest c = spell_more c.loop-rest.invariant (omega arith)
-
-pub bounds-text-i-in-loop-rest : goal.bounds-text-i-in-loop-rest
-bounds-text-i-in-loop-rest c = omega (arith, c.loop-rest.invariant.few, c.loop-rest.invariant.long)
-
-pub loop-rest-smaller : goal.loop-rest-smaller
-loop-rest-smaller c = omega (arith, spell_more c.loop-rest.invariant (omega arith))
-
-pub loop-rest-preserved : goal.loop-rest-preserved
-loop-rest-preserved c = spell_next c.loop-rest.invariant (omega arith) c.digit-in-loop-rest.ensures
-
-pub shape_of-text : goal.shape_of-text
-shape_of-text c = simp length-set at c.loop-rest.invariant.long
+pub loop-i-preserved : goal.loop-i-preserved
+loop-i-preserved c = spell_next c.loop-i.invariant (omega arith) (omega arith) c.digit.ensures (omega arith)
 
 pub returns : goal.returns
-returns c = simp length-set at (spell_end c.loop-rest.invariant (omega arith))
+returns c = spell_all c.loop-i.invariant (omega arith)

@@ -3,8 +3,5 @@ use lib.ListN.{length}
 use Rattle.print.proofs.Puts.{Spelling}
 use Rattle.print.proofs.spell.Given as goal
 
-abbrev pub invariant-loop-rest : goal.invariant-loop-rest
-invariant-loop-rest l = Spelling (length l.initial.text) l.n l.text l.rest l.i
-
-abbrev pub decreases-loop-rest : goal.decreases-loop-rest
-decreases-loop-rest l = l.i
+abbrev pub invariant-loop-i : goal.invariant-loop-i
+invariant-loop-i l = Spelling (length l.initial.text) l.n l.text l.rest l.i

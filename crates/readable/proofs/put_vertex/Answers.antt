@@ -37,6 +37,6 @@ returns c = let put =
     vertex_put c.args.out.now
     c.put_decimal-a.ensures c.put_decimal.ensures in
     record {
-      fact_1 = put;
-      fact_2 = omega (arith, put.after, vertex_few c.args.x c.args.y);
+      text = put;
+      room = omega (arith, put.after, vertex_few c.args.x c.args.y);
     }
