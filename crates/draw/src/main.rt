@@ -1,25 +1,13 @@
 // Program `draw`: lays the sheet on standard input, with the gap in front of it or without one, and prints a picture of the strip in SVG.
 #![tactic(auto)]
 
-use defs::{Refusal, Totals};
 use std::io;
-
-// The lay call, of which only the answer is used here.
-fn lay(
-    sheet: &[u8],
-    gap: u16,
-    strip: &mut [u16],
-    entries: &mut [u16],
-    work: &mut [u16],
-) -> Result<Totals, Refusal> {
-    laying::lay(sheet, gap, strip, entries, work)
-}
 
 // The job on a lent strip. Lends the other buffers.
 fn draw_strip(sheet: &[u8], gap: u16, strip: &mut [u16], out: &mut [u8]) -> usize {
     let mut entries = [0u16; lent::ENTRIES];
     let mut work = [0u16; lent::WORK];
-    let a = lay(sheet, gap, strip, &mut entries, &mut work);
+    let a = laying::lay(sheet, gap, strip, &mut entries, &mut work);
     drawing::draw_answer(sheet, gap, a, &entries, &mut work, out)
 }
 
@@ -27,17 +15,15 @@ fn draw_strip(sheet: &[u8], gap: u16, strip: &mut [u16], out: &mut [u8]) -> usiz
 // too short. As much of the strip is lent as the sheet is to have.
 fn draw_sheet(sheet: &[u8], gap: u16, out: &mut [u8]) -> usize {
     let mut strip = [0u16; lent::STRIP];
-    let n = lent::strip_words(sheet);
-    if lent::STRIP < n {
-        return 0;
+    match strip.get_mut(..lent::strip_words(sheet)) {
+        Some(strip) => draw_strip(sheet, gap, strip, out),
+        None => 0,
     }
-    draw_strip(sheet, gap, &mut strip[..n], out)
 }
 
 fn draw(input: &[u8], out: &mut [u8]) -> usize {
     let f = gapline::front_of(input);
-    let from = f.sheet;
-    draw_sheet(&input[from..], f.gap, out)
+    draw_sheet(&input[f.sheet..], f.gap, out)
 }
 
 fn run(rt: &HostRuntime, input: &mut [u8], output: &mut [u8]) -> io::Result<()> {

@@ -3,23 +3,26 @@
 
 use defs::{Figures, Refusal, Totals};
 use frame::Scene;
+use svg::Page;
 
 // Every picture fits: 200 pieces of 64 vertices of 17 bytes, in an outline and in its gap, 64 stretches of 34 bytes and 232 bytes more
 // each, and 8,192 bytes for the rest.
 pub const ROOM: usize = 930000;
 
 // The picture of a job that is laid.
-fn put_picture(out: &mut [u8], s: Scene, list: &[u16], entries: &[u16], work: &mut [u16]) -> usize {
-    let a = frame::put_ground(out, s);
-    let g = shapes::put_gap(out, a, s, list, entries);
-    let b = shapes::put_pieces(out, g, s.resolution, s.font, list, entries, work);
-    let c = shapes::put_twice(out, b, s.resolution, s.font, list, entries);
-    frame::put_around(out, c, s, b < c, marks::word(list, 0), entries)
+fn put_picture(page: &mut Page, s: Scene, list: &[u16], entries: &[u16], work: &mut [u16]) {
+    frame::put_ground(page, s);
+    shapes::put_gap(page, s, list, entries);
+    shapes::put_pieces(page, s, list, entries, work);
+    let before = page.len();
+    shapes::put_twice(page, s, list, entries);
+    let dashed = before < page.len();
+    frame::put_around(page, s, dashed, marks::word(list, 0), entries);
 }
 
-// What was read. A sheet that is laid is not refused.
-fn figures_of(r: Result<Figures, Refusal>) -> Figures {
-    match r {
+// The figures of a sheet that is laid, so it is not refused; its cut list is written.
+fn read(sheet: &[u8], list: &mut [u16]) -> Figures {
+    match reads::read(sheet, list) {
         Ok(f) => f,
         Err(_) => Figures {
             width: 0,
@@ -27,11 +30,6 @@ fn figures_of(r: Result<Figures, Refusal>) -> Figures {
             columns: 0,
         },
     }
-}
-
-// The figures of a sheet that is laid; its cut list is written.
-fn read(sheet: &[u8], list: &mut [u16]) -> Figures {
-    figures_of(reads::read(sheet, list))
 }
 
 // The picture of a sheet that is laid: its outlines are read from it anew.
@@ -45,13 +43,10 @@ fn draw_laid(
 ) -> usize {
     let mut list = [0u16; numbers::LIST_WORDS];
     let f = read(sheet, &mut list);
-    put_picture(
-        out,
-        frame::scene_of(f, t, list[0], gap),
-        &list,
-        entries,
-        work,
-    )
+    let s = Scene::of(f, t, list[0], gap);
+    let mut page = Page::new(out, s.font);
+    put_picture(&mut page, s, &list, entries, work);
+    page.len()
 }
 
 // The picture of a job that is laid or refused, at the start of the output. Answers the number of its bytes, or the output's length if that
@@ -66,6 +61,10 @@ pub fn draw_answer(
 ) -> usize {
     match a {
         Ok(t) => draw_laid(sheet, gap, t, entries, work, out),
-        Err(r) => frame::put_refused(out, r),
+        Err(r) => {
+            let mut page = Page::new(out, 0);
+            frame::put_refused(&mut page, r);
+            page.len()
+        }
     }
 }

@@ -37,7 +37,7 @@ asked_numbered false n rest h r = h refl
 
 choose_numbered : (W R Q : ℕ) (held : List (List Rows)) (o : List ℕ) (best : Option Position) → Numbered (choose W R 0 Q held o best)
 unfolding choose
-choose_numbered W R Q held o none = λ e. omega arith
+choose_numbered W R Q held o None = λ e. omega arith
 choose_numbered W R Q held o (Some p) = asked_numbered (q14b W R 0 Q held o p) 14 _ (λ _ e. omega arith) tt
 
 place_numbered : (W R N Q : ℕ) (held : List (List Rows)) (o : List ℕ) (mask words : ℕ) → Numbered (place_on W R N 0 Q held o mask words)

@@ -13,10 +13,9 @@ pub fn put_line(out: &mut [u8], at: usize, word: &[u8], numbers: &[u16]) -> usiz
     requires { at + length word.now + 6 * length numbers.now + 1 ≤ length out.old }
     ensures { Put out.old out.new at (lined word.now numbers.now) result }
 {
-    let a = print::put(out, at, word);
-    let b = print::put_spaced(out, a, numbers);
-    out[b] = b'\n';
-    b + 1
+    let end = print::put_words(out, at, word, numbers);
+    out[end] = b'\n';
+    end + 1
 }
 
 // The line of an entry.

@@ -1,7 +1,7 @@
 // Bytes and numbers put into a buffer.
 #![tactic(auto)]
 
-ghost use Rattle.std.specs.Prelude.{[], ◌≡◌, ◌+◌, ◌*◌, ◌%◌, ◌≤◌, ◌<◌, length};
+ghost use Rattle.std.specs.Prelude.{[], ◌++◌, ◌≡◌, ◌+◌, ◌*◌, ◌%◌, ◌≤◌, ◌<◌, length};
 ghost use Rattle.defs.specs.Computing.Text.{digits, decimal, long_decimal, spaced};
 ghost use Rattle.words.specs.Put.{Put};
 ghost use Rattle.print.specs.Spelled.{Spelled};
@@ -92,7 +92,8 @@ pub fn put_spaced(out: &mut [u8], at: usize, numbers: &[u16]) -> usize
 // A word, and each number after a space.
 pub fn put_words(out: &mut [u8], at: usize, word: &[u8], numbers: &[u16]) -> usize
     requires { at + length word.now + 6 * length numbers.now ≤ length out.old }
-    ensures { result ≤ at + length word.now + 6 * length numbers.now }
+    ensures bytes { Put out.old out.new at (word.now ++ spaced numbers.now) result }
+    ensures room { result ≤ at + length word.now + 6 * length numbers.now }
 {
     let a = put(out, at, word);
     put_spaced(out, a, numbers)

@@ -104,7 +104,8 @@ fn put_pieces(out: &mut [u8], at: usize, list: &[u16]) -> usize
 
 // The text of a cut list.
 fn put_list(out: &mut [u8], f: Figures, gap: u16, list: &[u16]) -> usize
-    requires { (1 ≤ length list.now) × (128 ≤ length out.old) }
+    requires list { 1 ≤ length list.now }
+    requires room { 128 ≤ length out.old }
     ensures { result ≤ length out.new }
 {
     let a = print::put_words(out, 0, b"strip", &[f.width, f.resolution, f.columns]);
@@ -114,7 +115,8 @@ fn put_list(out: &mut [u8], f: Figures, gap: u16, list: &[u16]) -> usize
 }
 
 fn show_lent(sheet: &[u8], gap: u16, list: &mut [u16], out: &mut [u8]) -> usize
-    requires { (1 ≤ length list.old) × (128 ≤ length out.old) }
+    requires list { 1 ≤ length list.old }
+    requires room { 128 ≤ length out.old }
     ensures { result ≤ length out.new }
 {
     match reads::read(sheet, list) {

@@ -2,18 +2,14 @@
 -- Assumes nothing.
 use mathlib.Core.Path.{◌≡◌, sym, ap, ◌∙◌}
 use mathlib.Core.List.{List}
-use Prim.Native.Nat.{ℕ, ◌+◌, ◌*◌, ◌≤◌, ◌<◌}
-use Rattle.std.specs.Prelude.{Result, Ok, Err}
-use Rattle.outline.specs.declared.Bounds.{Bounds}
+use Prim.Native.Nat.{ℕ, ◌+◌, ◌*◌, ◌<◌}
 use Rattle.defs.specs.declared.Position.{Position}
 use Rattle.defs.specs.Meaning.Outline.{vx, vy, sides}
 use Rattle.defs.specs.Meaning.Turn.{turned}
 use Rattle.defs.specs.Meaning.Placing.{moved}
 use Rattle.laws.proofs.Turns.{at_x, at_y}
 use Rattle.outline.specs.Vertex.{VertexOf}
-use Rattle.checks.specs.Says.{bounds_no, Says}
-use Rattle.checks.proofs.Bounded.{lent_by}
-use Rattle.shapes.specs.Points.{PointOf, Drawable}
+use Rattle.shapes.specs.Points.{PointOf}
 
 pub point_is : {o : List ℕ} {R : ℕ} {p : Position} {t i x y u v : ℕ} → i < sides o → t ≡ p.turn → VertexOf o t i u v →
     x ≡ u + p.column * R → y ≡ v + p.height → PointOf o R p i x y
@@ -28,7 +24,3 @@ point_is {o} {R} {p} {t} {i} l e k ex ey =
           ey ∙ ap (λ (a : ℕ). a + p.height) (k.up ∙ ap (λ (t : ℕ). vy (turned o t) i) e) ∙
           sym (at_y (λ i. vx v i + p.column * R) (λ i. vy v i + p.height) (sides o) i l);
     }
-
-pub drawable : (o : List ℕ) (p : Position) (a : Result Bounds ℕ) → Says o (bounds_no o) a → p.turn ≤ 3 → Drawable o p a
-drawable o p (Err k) s turn = tt
-drawable o p (Ok b) s turn = (lent_by o s.0, (s.1, turn))

@@ -3,417 +3,190 @@
 
 ghost use Rattle.std.specs.Prelude.{◌≡◌, ◌+◌, ◌*◌, ◌≤◌, ◌<◌};
 ghost use Rattle.defs.specs.Meaning.Outline.{sides};
-ghost use Rattle.outline.specs.Vertex.{Lent, BoundsOf, FrameOf};
-ghost use Rattle.shapes.specs.Points.{PointOf, Drawable};
+ghost use Rattle.outline.specs.Vertex.{Lent, FrameOf};
+ghost use Rattle.shapes.specs.Points.{PointOf};
 
-use defs::{Position, Refusal};
+use defs::Position;
 use frame::Scene;
+use listed::Outlines;
 use marks::Spot;
-use outline::{Bounds, Frame, Side};
+use outline::{Frame, Side};
+use svg::Page;
 
 // A vertex of a placed piece, in units.
 #[derive(Clone, Copy)]
-pub struct Point {
-    pub x: u32,
-    pub y: u32,
+struct Point {
+    x: u32,
+    y: u32,
 }
 
-// A vertex of the turned outline, moved to the piece's position.
-fn moved(x: u16, y: u16, r: u16, p: Position) -> Point
-    requires { (x ≤ 16000) × (y ≤ 16000) }
-    ensures { (result.x ≡ x + p.column * r) × (result.y ≡ y + p.height) }
-{
-    Point {
-        x: x as u32 + p.column as u32 * r as u32,
-        y: y as u32 + p.height as u32,
+// Where a piece was placed, by its entry.
+fn position_of(entry: &[u16]) -> Option<Position> {
+    if marks::word(entry, 0) != 0 {
+        return None;
     }
+    Some(Position {
+        turn: marks::word(entry, 1),
+        column: marks::word(entry, 2),
+        height: marks::word(entry, 3),
+    })
 }
 
-// Vertex i of the placed piece: that of document 01's moved piece.
-fn point_at(o: &[u16], f: Frame, r: u16, p: Position, i: usize) -> Point
-    requires fact_1 { Lent o.now }
-    requires fact_2 { FrameOf o.now f }
-    requires fact_3 { (f.turn ≡ p.turn) × (i < sides o.now) }
-    ensures { PointOf o.now r p i result.x result.y }
-{
-    let v = outline::vertex_at(o, f, i);
-    moved(v.x, v.y, r, p)
-}
-
-fn put_point(out: &mut [u8], at: usize, v: Point, font: u32) -> usize {
-    svg::fill(
-        out,
-        at,
-        b" %l,-%l",
-        &[100 * v.x as u64, 100 * v.y as u64],
-        font,
-    )
-}
-
-// The vertices of a piece.
-fn put_points(
-    out: &mut [u8],
-    at: usize,
-    o: &[u16],
-    f: Frame,
-    r: u16,
-    p: Position,
-    font: u32,
-) -> usize
-    requires fact_1 { Lent o.now }
-    requires fact_2 { FrameOf o.now f }
-    requires fact_3 { f.turn ≡ p.turn }
-{
-    let n = o.len() / 2;
-    let mut i: usize = 0;
-    let mut to = at;
-    while i < n {
-        let v = point_at(o, f, r, p, i);
-        to = put_point(out, to, v, font);
-        i += 1;
-    }
-    to
-}
-
-// A stretch of a placed piece that is drawn twice, if it has a length.
-fn put_stretch(out: &mut [u8], at: usize, s: Side, r: u16, p: Position, font: u32) -> usize {
-    if !stretch::is_long(s) {
-        return at;
-    }
-    let x = 100 * frame::length_of(p.column, r) as u64;
-    let y = 100 * p.height as u64;
-    svg::fill(
-        out,
-        at,
-        b"M%l -%lL%l -%l",
-        &[
-            x + 100 * s.xl as u64,
-            y + 100 * s.yl as u64,
-            x + 100 * s.xr as u64,
-            y + 100 * s.yr as u64,
-        ],
-        font,
-    )
-}
-
-// Whether an outline draws a stretch twice.
-fn draws_twice(o: &[u16]) -> bool {
-    match retrace::retrace(o) {
-        Ok(Some(_)) => true,
-        Ok(None) => false,
-        Err(_) => false,
-    }
-}
-
-fn put_end(out: &mut [u8], at: usize) -> usize {
-    svg::fill(out, at, b"'/>", &[], 0)
-}
-
-// What a piece draws twice, edge by edge.
-fn put_edges(
-    out: &mut [u8],
-    at: usize,
-    o: &[u16],
-    f: Frame,
-    r: u16,
-    p: Position,
-    font: u32,
-) -> usize
-    requires fact_1 { Lent o.now }
-    requires fact_2 { FrameOf o.now f }
-    requires fact_3 { f.turn ≡ p.turn }
-{
-    let n = o.len() / 2;
-    let mut i: usize = 0;
-    let mut to = at;
-    while i < n {
-        let s = stretch::longest_from(o, f, i);
-        to = put_stretch(out, to, s, r, p, font);
-        i += 1;
-    }
-    to
-}
-
-// The ordinal of a piece.
-fn put_ordinal(
-    out: &mut [u8],
-    at: usize,
-    r: u16,
-    p: Position,
-    t: Spot,
-    font: u32,
-    k: u64,
-) -> usize {
-    let x = 100 * frame::length_of(p.column, r) as u64 + t.x as u64;
-    let y = 100 * p.height as u64 + t.y as u64;
-    svg::fill(
-        out,
-        at,
-        b"<text class='middle' dy='.35em' x='%l' y='-%l' font-size='%l'>%n</text>\n",
-        &[x, y, t.font, k],
-        font,
-    )
-}
-
-// The runs that were written. A piece that was placed has some, and the work buffer has room for them.
-fn count_of(c: Result<u32, Refusal>) -> u32 {
-    match c {
-        Ok(count) => count,
-        Err(_) => 0,
-    }
-}
-
-// The runs of a piece that is so long, in the columns in which it is looked at.
-fn cover(o: &[u16], turn: u16, long: u16, work: &mut [u16]) -> u32 {
-    count_of(cover::cover(o, turn, marks::part_of(long), 0, work))
-}
-
-// The ordinal of a piece that is so long.
-fn put_inside(
-    out: &mut [u8],
-    at: usize,
-    o: &[u16],
+// A placed piece: its outline is read through the turn of its position, in which it is so long.
+#[derive(Clone, Copy)]
+struct Piece<'a> {
+    outline: &'a [u16],
+    frame: Frame,
     long: u16,
-    r: u16,
-    p: Position,
-    font: u32,
-    k: u64,
-    work: &mut [u16],
-) -> usize {
-    let count = cover(o, p.turn, long, work);
-    let t = marks::spot_of(work, count, long, font as u64, k);
-    put_ordinal(out, at, r, p, t, font, k)
+    position: Position,
+    resolution: u16,
+    ordinal: u64,
+    ghost lent: { Lent outline.now },
+    ghost read: { FrameOf outline.now frame },
+    ghost turned: { frame.turn ≡ position.turn },
 }
 
-fn put_start(out: &mut [u8], at: usize) -> usize {
-    svg::fill(out, at, b"<polygon class='piece' points='", &[], 0)
-}
-
-// The outline of a piece.
-fn put_outline(
-    out: &mut [u8],
-    at: usize,
-    o: &[u16],
-    f: Frame,
-    r: u16,
-    p: Position,
-    font: u32,
-) -> usize
-    requires { (Lent o.now) × ((FrameOf o.now f) × (f.turn ≡ p.turn)) }
-{
-    let start = put_start(out, at);
-    let a = put_points(out, start, o, f, r, p, font);
-    put_end(out, a)
-}
-
-// A piece with its ordinal.
-fn put_shape(
-    out: &mut [u8],
-    at: usize,
-    o: &[u16],
-    b: Bounds,
-    r: u16,
-    p: Position,
-    font: u32,
-    k: u64,
-    work: &mut [u16],
-) -> usize
-    requires { (Lent o.now) × ((BoundsOf o.now b) × (p.turn ≤ 3)) }
-{
-    let e = outline::extent_of(o, b, p.turn);
-    let f = outline::frame_of(o, b, p.turn);
-    let a = put_outline(out, at, o, f, r, p, font);
-    put_inside(out, a, o, e.w, r, p, font, k, work)
-}
-
-// The bounds of a placed piece's outline: each that was placed passes 7 and 8, and its turn is one of four.
-#[tactic(auto, using(crate::proofs::Points::drawable))]
-fn placed_bounds(o: &[u16], p: Position) -> Result<Bounds, u16>
-    ensures { Drawable o.now p result }
-{
-    if numbers::MOST_TURN < p.turn {
-        return Err(9);
+impl<'a> Piece<'a> {
+    // The piece with this entry, if it was placed: each that was passes 7 and 8, and its turn is one of four.
+    #[tactic(auto, using(checks::proofs::Bounded::lent_by))]
+    fn of(o: &'a [u16], entry: &[u16], resolution: u16, ordinal: u64) -> Option<Piece<'a>> {
+        let position = position_of(entry)?;
+        if numbers::MOST_TURN < position.turn {
+            return None;
+        }
+        let b = checks::bounds(o).ok()?;
+        Some(Piece {
+            outline: o,
+            frame: outline::frame_of(o, b, position.turn),
+            long: outline::extent_of(o, b, position.turn).w,
+            position,
+            resolution,
+            ordinal,
+        })
     }
-    checks::bounds(o)
-}
 
-// A placed piece.
-fn put_piece(
-    out: &mut [u8],
-    at: usize,
-    o: &[u16],
-    r: u16,
-    p: Position,
-    font: u32,
-    k: u64,
-    work: &mut [u16],
-) -> usize {
-    match placed_bounds(o, p) {
-        Err(_) => at,
-        Ok(b) => put_shape(out, at, o, b, r, p, font, k, work),
+    // A point of the turned outline, moved to the piece's position.
+    fn moved(&self, x: u16, y: u16) -> Point
+        ensures across { result.x ≡ x + self.now.position.column * self.now.resolution }
+        ensures up { result.y ≡ y + self.now.position.height }
+    {
+        let p = self.position;
+        Point {
+            x: u32::from(x) + u32::from(p.column) * u32::from(self.resolution),
+            y: u32::from(y) + u32::from(p.height),
+        }
     }
-}
 
-// Where piece i was placed. A refused one has no turn.
-fn place_of(entries: &[u16], i: u16) -> Position {
-    let j = numbers::ENTRY_WORDS * i as usize;
-    let turn = marks::word(entries, j + 1);
-    Position {
-        turn: if marks::word(entries, j) == 0 {
-            turn
-        } else {
-            numbers::MOST_TURN + 1
-        },
-        column: marks::word(entries, j + 2),
-        height: marks::word(entries, j + 3),
+    // Vertex i: that of document 01's moved piece.
+    fn point_at(&self, i: usize) -> Point
+        requires { i < sides self.now.outline.now }
+        ensures { PointOf self.now.outline.now self.now.resolution self.now.position i result.x result.y }
+    {
+        let v = outline::vertex_at(self.outline, self.frame, i);
+        self.moved(v.x, v.y)
     }
-}
 
-// The placed pieces.
-pub fn put_pieces(
-    out: &mut [u8],
-    at: usize,
-    r: u16,
-    font: u32,
-    list: &[u16],
-    entries: &[u16],
-    work: &mut [u16],
-) -> usize {
-    let count = marks::word(list, 0);
-    let mut i: u16 = 0;
-    let mut from: usize = 1;
-    let mut to = at;
-    while i < count {
-        let o = listed::outline_at(list, from);
-        to = put_piece(
-            out,
-            to,
-            o,
-            r,
-            place_of(entries, i),
-            font,
-            i as u64 + 1,
-            work,
+    fn put_points(&self, page: &mut Page) {
+        for i in 0..self.outline.len() / 2 {
+            let v = self.point_at(i);
+            page.fill(b" %l,-%l", &[100 * u64::from(v.x), 100 * u64::from(v.y)]);
+        }
+    }
+
+    // A stretch that is drawn twice, if it has a length.
+    fn put_stretch(&self, page: &mut Page, s: Side) {
+        if !stretch::is_long(s) {
+            return;
+        }
+        let from = self.moved(s.xl, s.yl);
+        let to = self.moved(s.xr, s.yr);
+        page.fill(
+            b"M%l -%lL%l -%l",
+            &[
+                100 * u64::from(from.x),
+                100 * u64::from(from.y),
+                100 * u64::from(to.x),
+                100 * u64::from(to.y),
+            ],
         );
-        from += 2 + o.len();
-        i += 1;
     }
-    to
+
+    fn put_ordinal(&self, page: &mut Page, spot: Spot) {
+        let corner = self.moved(0, 0);
+        page.fill(
+            b"<text class='middle' dy='.35em' x='%l' y='-%l' font-size='%l'>%n</text>\n",
+            &[
+                100 * u64::from(corner.x) + u64::from(spot.x),
+                100 * u64::from(corner.y) + u64::from(spot.y),
+                spot.font,
+                self.ordinal,
+            ],
+        );
+    }
+
+    // The outline, and the ordinal in it: by the runs of the piece, in the columns in which it is looked at.
+    fn put(&self, page: &mut Page, font: u32, work: &mut [u16]) {
+        page.fill(b"<polygon class='piece' points='", &[]);
+        self.put_points(page);
+        page.fill(b"'/>", &[]);
+        let part = marks::part_of(self.long);
+        // A piece that was placed has runs, and the work buffer has room for them.
+        let count = cover::cover(self.outline, self.position.turn, part, 0, work).unwrap_or(0);
+        let runs = work.get(..marks::RUN_WORDS * count as usize).unwrap_or(&[]);
+        if let Some(spot) = marks::spot_of(runs, self.long, u64::from(font), self.ordinal) {
+            self.put_ordinal(page, spot);
+        }
+    }
+
+    // The outline as a part of a path. What it draws twice has no gap, but its shade lies below all pieces.
+    fn put_round(&self, page: &mut Page) {
+        page.fill(b"M", &[]);
+        self.put_points(page);
+        page.fill(b"Z", &[]);
+    }
+
+    // Dashes over what the outline draws twice, edge by edge, if it does.
+    fn put_dashes(&self, page: &mut Page) {
+        if !matches!(retrace::retrace(self.outline), Ok(Some(_))) {
+            return;
+        }
+        page.fill(b"<path class='twice' d='", &[]);
+        for i in 0..self.outline.len() / 2 {
+            let s = stretch::longest_from(self.outline, self.frame, i);
+            self.put_stretch(page, s);
+        }
+        page.fill(b"'/>\n", &[]);
+    }
 }
 
-// The outline of a piece as a part of a path. What the outline draws twice has no gap, but its shade lies below all pieces.
-fn put_loop(
-    out: &mut [u8],
-    at: usize,
-    o: &[u16],
-    b: Bounds,
-    r: u16,
-    p: Position,
-    font: u32,
-) -> usize
-    requires { (Lent o.now) × ((BoundsOf o.now b) × (p.turn ≤ 3)) }
+// Puts something of each placed piece.
+fn put_each<F: FnMut(&Piece)>(s: Scene, list: &[u16], entries: &[u16], mut put: F)
+    requires { F.IsAlwaysCallable put }
 {
-    let f = outline::frame_of(o, b, p.turn);
-    let start = svg::fill(out, at, b"M", &[], 0);
-    let a = put_points(out, start, o, f, r, p, font);
-    svg::fill(out, a, b"Z", &[], 0)
-}
-
-// The same of a piece that is placed.
-fn put_round(out: &mut [u8], at: usize, o: &[u16], r: u16, p: Position, font: u32) -> usize {
-    match placed_bounds(o, p) {
-        Err(_) => at,
-        Ok(b) => put_loop(out, at, o, b, r, p, font),
+    let entries = entries.chunks_exact(numbers::ENTRY_WORDS);
+    for (i, (outline, entry)) in Outlines::of(list).zip(entries).enumerate() {
+        if let Some(piece) = Piece::of(outline, entry, s.resolution, i as u64 + 1) {
+            put(&piece);
+        }
     }
 }
 
-// The outlines of the placed pieces as parts of a path.
-fn put_rounds(
-    out: &mut [u8],
-    at: usize,
-    r: u16,
-    font: u32,
-    list: &[u16],
-    entries: &[u16],
-) -> usize {
-    let count = marks::word(list, 0);
-    let mut i: u16 = 0;
-    let mut from: usize = 1;
-    let mut to = at;
-    while i < count {
-        let o = listed::outline_at(list, from);
-        to = put_round(out, to, o, r, place_of(entries, i), font);
-        from += 2 + o.len();
-        i += 1;
-    }
-    to
+// The placed pieces with their ordinals.
+pub fn put_pieces(page: &mut Page, s: Scene, list: &[u16], entries: &[u16], work: &mut [u16]) {
+    put_each(s, list, entries, |piece| piece.put(page, s.font, work));
 }
 
 // The gap around the placed pieces, if there is one: nothing of another piece lies in it.
-pub fn put_gap(out: &mut [u8], at: usize, s: Scene, list: &[u16], entries: &[u16]) -> usize {
+pub fn put_gap(page: &mut Page, s: Scene, list: &[u16], entries: &[u16]) {
     if s.gap == 0 {
-        return at;
+        return;
     }
-    let a = frame::put_shade(out, at, s);
-    let b = put_rounds(out, a, s.resolution, s.font, list, entries);
-    put_line_end(out, b)
-}
-
-fn put_dashes(out: &mut [u8], at: usize) -> usize {
-    svg::fill(out, at, b"<path class='twice' d='", &[], 0)
-}
-
-fn put_line_end(out: &mut [u8], at: usize) -> usize {
-    svg::fill(out, at, b"'/>\n", &[], 0)
-}
-
-// Dashes over what an outline draws twice.
-fn put_dashed(
-    out: &mut [u8],
-    at: usize,
-    o: &[u16],
-    b: Bounds,
-    r: u16,
-    p: Position,
-    font: u32,
-) -> usize
-    requires { (Lent o.now) × ((BoundsOf o.now b) × (p.turn ≤ 3)) }
-{
-    let f = outline::frame_of(o, b, p.turn);
-    let a = put_dashes(out, at);
-    let e = put_edges(out, a, o, f, r, p, font);
-    put_line_end(out, e)
-}
-
-// The same of a piece that is placed and draws something twice.
-fn put_stretches(out: &mut [u8], at: usize, o: &[u16], r: u16, p: Position, font: u32) -> usize {
-    if !draws_twice(o) {
-        return at;
-    }
-    match placed_bounds(o, p) {
-        Err(_) => at,
-        Ok(b) => put_dashed(out, at, o, b, r, p, font),
-    }
+    frame::put_shade(page, s);
+    put_each(s, list, entries, |piece| piece.put_round(page));
+    page.fill(b"'/>\n", &[]);
 }
 
 // What the placed pieces draw twice, over all of them: such a stretch may lie over another piece.
-pub fn put_twice(
-    out: &mut [u8],
-    at: usize,
-    r: u16,
-    font: u32,
-    list: &[u16],
-    entries: &[u16],
-) -> usize {
-    let count = marks::word(list, 0);
-    let mut i: u16 = 0;
-    let mut from: usize = 1;
-    let mut to = at;
-    while i < count {
-        let o = listed::outline_at(list, from);
-        to = put_stretches(out, to, o, r, place_of(entries, i), font);
-        from += 2 + o.len();
-        i += 1;
-    }
-    to
+pub fn put_twice(page: &mut Page, s: Scene, list: &[u16], entries: &[u16]) {
+    put_each(s, list, entries, |piece| piece.put_dashes(page));
 }

@@ -34,6 +34,7 @@ fn is_blank(b: u8) -> bool {
 fn value_of(digits: &[u8]) -> u32 {
     let mut value: u32 = 0;
     for b in digits {
+        // '0' is 0x30
         let digit = u32::from(b & 0xf);
         value = value.saturating_mul(10).saturating_add(digit);
     }
