@@ -31,9 +31,7 @@ use Rattle.tables.specs.Piece.{Stands}
 use Rattle.laws.proofs.First.{first_at}
 use Rattle.tables.proofs.Flats.{table_flat}
 use Rattle.tables.proofs.Copies.{NoneBefore, not_free}
-use Rattle.walk.specs.declared.Spot.{Spot}
-use Rattle.walk.specs.declared.Spot.TheVariants.{Found, None as NoSpot}
-use Rattle.walk.specs.declared.TurnWalk.{TurnWalk}
+use Rattle.walk.specs.declared.WithTries.{WithTries}
 use Rattle.walk.specs.Free.{Frame, NoHeight}
 use Rattle.walk.proofs.Searches.{frame_of, free_is, found_is}
 use Rattle.walk.proofs.Walks.{tries_are}
@@ -112,8 +110,8 @@ module _
             };
       })
 
-  pub spot_fits : {end c y : ℕ} {way : Way} {a : TurnWalk} → W ≤ 16000 → N ≤ 4096 → Looks f l h r N W p wide tall end way a →
-      a.spot ≡ Found c y → (c ≤ 65535) × (y + tall ≤ 65535)
+  pub spot_fits : {end c y : ℕ} {way : Way} {a : WithTries (Option (ℕ × ℕ))} → W ≤ 16000 → N ≤ 4096 → Looks f l h r N W p wide tall end way a →
+      a.found ≡ Some (c, y) → (c ≤ 65535) × (y + tall ≤ 65535)
   spot_fits {end} few many e q =
       let s = subst (SearchedTo f l h r N W p wide tall end) q e.spot in
       (omega (arith, s.fits), omega (arith, s.height.fits))
@@ -140,13 +138,13 @@ module _
         edge_within R (extent_x o t) Rpos c N on_strip,
       )
 
-  finds : (limit : ℕ) (s : Spot) →
+  finds : (limit : ℕ) (s : Option (ℕ × ℕ)) →
       SearchedTo f l h r N W p (columns_for (extent_x o t) R) (extent_y o t) (columns_for (limit + 1 - extent_x o t) R) s →
       FindsTo R N o (first_free W R N g (table_of f l h N) o t) limit (ranked s t (extent_x o t) (extent_y o t) R)
   unfolding right_edge top
-  finds limit (Found c y) e =
+  finds limit (Some (c, y)) e =
       record { is = sym (found_is o t R g small laid stood e); ranks = record { right = refl; top = refl } }
-  finds limit NoSpot e = after_limit limit e
+  finds limit None e = after_limit limit e
 
   -- the walk counts the tries of the definition's walk
   tries : (way : Way) (n : ℕ) → StepsBy f l h r N W p (columns_for (extent_x o t) R) (extent_y o t) way n →
@@ -154,8 +152,8 @@ module _
   tries ByWalk n e = tries_are o t R g small laid stood e
   tries Round n e = tt
 
-  pub turn_tried : (words limit : ℕ) (way : Way) (a : TurnWalk) {c : Option Ranked} →
-      Looks f l h r N W p wide tall (columns_for (limit + 1 - w) R) way a → c ≡ ranked a.spot t w tall R →
+  pub turn_tried : (words limit : ℕ) (way : Way) (a : WithTries (Option (ℕ × ℕ))) {c : Option Ranked} →
+      Looks f l h r N W p wide tall (columns_for (limit + 1 - w) R) way a → c ≡ ranked a.found t w tall R →
       OneTurn W R N g (table_of f l h N) o t words limit way
       (record { most = p; best = c; tries = a.tries; stands = record { turn = t; runs = p } })
   turn_tried words limit way a e q =
@@ -163,7 +161,7 @@ module _
         most = stood.count;
         few = e.few;
         tries = λ _. tries way a.tries (rw (wide_is, up) at e.steps);
-        best = λ _. rw (q, across, up) (finds limit a.spot (rw (wide_is, up, across) at e.spot));
+        best = λ _. rw (q, across, up) (finds limit a.found (rw (wide_is, up, across) at e.spot));
       }
 
 -- question 10 says that an allowed turn keeps its order

@@ -10,8 +10,6 @@ use Rattle.outline.specs.declared.Bounds.{Bounds}
 use Rattle.outline.specs.Vertex.{Lent, BoundsOf}
 use Rattle.tables.specs.Flat.{Laid}
 use Rattle.tables.specs.Piece.{Stands}
-use Rattle.walk.specs.declared.Spot.{Spot}
-use Rattle.walk.specs.declared.Spot.TheVariants.{Found, None as NoSpot}
 use Rattle.search.specs.declared.Way.{Way}
 use Rattle.search.specs.declared.Way.TheVariants.{Walk as ByWalk, Round}
 use Rattle.ranks.specs.declared.Ranked.{Ranked}
@@ -35,9 +33,9 @@ Ranks R o None = Unit {0}
 abbrev pub ranked_at : ℕ → ℕ → ℕ → ℕ → ℕ → ℕ → Ranked
 ranked_at c y t w h R = record { at = record { turn = t; column = c; height = y }; right = c * R + w; top = y + h }
 
-abbrev pub ranked : Spot → ℕ → ℕ → ℕ → ℕ → Option Ranked
-ranked (Found c y) t w h R = Some (ranked_at c y t w h R)
-ranked NoSpot t w h R = None
+abbrev pub ranked : Option (ℕ × ℕ) → ℕ → ℕ → ℕ → ℕ → Option Ranked
+ranked (Some (c, y)) t w h R = Some (ranked_at c y t w h R)
+ranked None t w h R = None
 
 -- a choice is what the definition finds
 pub record Finds (R : ℕ) (o : List ℕ) (x : Option Position) (c : Option Ranked) : Type 0 where

@@ -13,7 +13,7 @@ use defs::{Figures, Position};
 use outline::{Bounds, Extent};
 use ranks::{Ranked, Standing, Tried};
 use search::{Edges, Way};
-use walk::{Search, Spot};
+use walk::Search;
 
 // Column c and height y of turn t, with their rank in columns of r units.
 fn rank(c: usize, y: u16, t: u16, e: Extent, r: u16) -> Ranked
@@ -48,29 +48,33 @@ fn try_turn(
     limit: u32,
     work: &mut [u16],
 ) -> Tried
-    requires fact_1 { Ready first.now lows.now highs.now o.now g.width g.resolution g.columns gap b }
-    requires fact_2 { t ≤ 3 }
-    requires fact_3 { KeepsOrder (turned o.now t) }
-    requires fact_4 { NoneInTurn g.width g.resolution g.columns gap (table_of first.now lows.now highs.now g.columns) o.now t lower }
-    ensures fact_1 { OneTurn g.width g.resolution g.columns gap (table_of first.now lows.now highs.now g.columns) o.now t (length work.old) limit way result }
-    ensures fact_2 { Kept o.now g.resolution gap work.new result.stands.turn result.stands.runs }
+    requires ready { Ready first.now lows.now highs.now o.now g.width g.resolution g.columns gap b }
+    requires turn { t ≤ 3 }
+    requires order { KeepsOrder (turned o.now t) }
+    requires none_before { NoneInTurn g.width g.resolution g.columns gap (table_of first.now lows.now highs.now g.columns) o.now t lower }
+    ensures tried { OneTurn g.width g.resolution g.columns gap (table_of first.now lows.now highs.now g.columns) o.now t (length work.old) limit way result }
+    ensures kept { Kept o.now g.resolution gap work.new result.stands.turn result.stands.runs }
 {
     let e = outline::extent_of(o, b, t);
     let k = cells::put_turn(o, b, t, g.resolution, gap, e.w, work);
+    let untried = Tried {
+        most: k,
+        best: None,
+        tries: 0,
+        stands: Standing { turn: t, runs: k },
+    };
     if work.len() / 3 < k {
-        return Tried {
-            most: k,
-            best: None,
-            tries: 0,
-            stands: Standing { turn: t, runs: k },
-        };
+        return untried;
     }
-    let wide = ranks::columns_for(e.w, g.resolution);
-    let figures = Search {
+    let s = Search {
+        first,
+        lows,
+        highs,
+        runs: work,
         columns: g.columns as usize,
         width: g.width,
-        runs: k,
-        wide: wide,
+        count: k,
+        wide: ranks::columns_for(e.w, g.resolution),
         tall: e.h,
     };
     let edges = Edges {
@@ -79,21 +83,14 @@ fn try_turn(
         least: lower,
         most: limit,
     };
-    let found = search::search(first, lows, highs, work, figures, way, edges);
-    let spot = found.spot;
-    let Spot::Found(c, y) = spot else {
-        return Tried {
-            most: k,
-            best: None,
-            tries: found.tries,
-            stands: Standing { turn: t, runs: k },
-        };
+    let x = search::search(s, way, edges);
+    let Some((c, y)) = x.found else {
+        return Tried { tries: x.tries, ..untried };
     };
     Tried {
-        most: k,
         best: Some(rank(c, y, t, e, g.resolution)),
-        tries: found.tries,
-        stands: Standing { turn: t, runs: k },
+        tries: x.tries,
+        ..untried
     }
 }
 
@@ -113,22 +110,23 @@ fn allowed_turn(
     work: &mut [u16],
     s: Tried,
 ) -> Tried
-    requires fact_1 { Ready first.now lows.now highs.now o.now g.width g.resolution g.columns gap b }
-    requires fact_2 { t ≤ 3 }
-    requires fact_3 { Question10 o.now mask
+    requires ready { Ready first.now lows.now highs.now o.now g.width g.resolution g.columns gap b }
+    requires turn { t ≤ 3 }
+    requires ten { Question10 o.now mask
         × NoneBefore g.width g.resolution g.columns gap (table_of first.now lows.now highs.now g.columns) o.now mask lower }
-    requires fact_4 { TurnsTo g.width g.resolution g.columns gap (table_of first.now lows.now highs.now g.columns) o.now mask t (length work.old) way s }
-    requires fact_5 { Kept o.now g.resolution gap work.old s.stands.turn s.stands.runs }
-    ensures fact_1 { TurnsTo g.width g.resolution g.columns gap (table_of first.now lows.now highs.now g.columns) o.now mask (t + 1) (length work.old) way result }
-    ensures fact_2 { Kept o.now g.resolution gap work.new result.stands.turn result.stands.runs }
+    requires so_far { TurnsTo g.width g.resolution g.columns gap (table_of first.now lows.now highs.now g.columns) o.now mask t (length work.old) way s }
+    requires kept { Kept o.now g.resolution gap work.old s.stands.turn s.stands.runs }
+    ensures tried { TurnsTo g.width g.resolution g.columns gap (table_of first.now lows.now highs.now g.columns) o.now mask (t + 1) (length work.old) way result }
+    ensures kept { Kept o.now g.resolution gap work.new result.stands.turn result.stands.runs }
 {
-    if checks::allows(mask, t) {
-        let c = s.best;
-        let limit = ranks::limit_of(c);
-        let x = try_turn(g, gap, first, lows, highs, o, b, t, way, lower, limit, work);
-        return ranks::merge(s, x);
+    if !checks::allows(mask, t) {
+        return s;
     }
-    s
+    let limit = ranks::limit_of(s.best);
+    let x = try_turn(
+        g, gap, first, lows, highs, o, b, t, way, lower, limit, work,
+    );
+    ranks::merge(s, x)
 }
 
 // The best position in the allowed turns, where none has its right edge before `lower`.
@@ -145,11 +143,11 @@ pub fn best_turn(
     lower: u32,
     work: &mut [u16],
 ) -> Tried
-    requires fact_1 { Ready first.now lows.now highs.now o.now g.width g.resolution g.columns gap b }
-    requires fact_2 { Question10 o.now mask
+    requires ready { Ready first.now lows.now highs.now o.now g.width g.resolution g.columns gap b }
+    requires ten { Question10 o.now mask
         × NoneBefore g.width g.resolution g.columns gap (table_of first.now lows.now highs.now g.columns) o.now mask lower }
-    ensures fact_1 { TurnsTo g.width g.resolution g.columns gap (table_of first.now lows.now highs.now g.columns) o.now mask 4 (length work.old) way result }
-    ensures fact_2 { Kept o.now g.resolution gap work.new result.stands.turn result.stands.runs }
+    ensures tried { TurnsTo g.width g.resolution g.columns gap (table_of first.now lows.now highs.now g.columns) o.now mask 4 (length work.old) way result }
+    ensures kept { Kept o.now g.resolution gap work.new result.stands.turn result.stands.runs }
 {
     let mut s = Tried {
         most: 0,
@@ -157,12 +155,10 @@ pub fn best_turn(
         tries: 0,
         stands: Standing { turn: 4, runs: 0 },
     };
-    let mut t = 0;
-    while t < 4 {
+    for t in 0..4 {
         s = allowed_turn(
             g, gap, first, lows, highs, o, b, mask, t, way, lower, work, s,
         );
-        t += 1;
     }
     s
 }

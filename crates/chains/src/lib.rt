@@ -12,21 +12,12 @@ pub fn check_run(s: &[u16], g: Shape, c: usize, m: usize, r: usize) -> Option<us
     requires { Sized s.now g }
     ensures { Marks s.now g.records c m r result }
 {
-    if g.records < r {
-        return None;
-    }
-    if striprecords::word_of(s, g, r, limits::COLUMN) != c {
+    if g.records < r || striprecords::word_of(s, g, r, limits::COLUMN) != c {
         return None;
     }
     let lo = striprecords::word_of(s, g, r, limits::LOW);
     let hi = striprecords::word_of(s, g, r, limits::HIGH);
-    if lo < m {
-        return None;
-    }
-    if hi <= lo {
-        return None;
-    }
-    if g.width < hi {
+    if lo < m || hi <= lo || g.width < hi {
         return None;
     }
     Some(hi)
@@ -39,19 +30,12 @@ pub fn column_chain(s: &[u16], g: Shape, c: usize) -> Option<usize>
     ensures { Chains s.now g.records c result }
 {
     let mut at = striprecords::word(s, limits::LEADING_WORDS + c);
-    let mut m: usize = 0;
+    let mut m = 0;
     let mut k: usize = 0;
     while 0 < at {
-        match check_run(s, g, c, m, at) {
-            Some(h) => {
-                m = h + 1;
-                k += 1;
-                at = striprecords::word_of(s, g, at, limits::NEXT);
-            }
-            None => {
-                return None;
-            }
-        }
+        m = check_run(s, g, c, m, at)? + 1;
+        k += 1;
+        at = striprecords::word_of(s, g, at, limits::NEXT);
     }
     Some(k)
 }
@@ -65,13 +49,7 @@ pub fn free_chain(s: &[u16], g: Shape) -> Option<usize>
     let mut at = striprecords::in_order(s, g, first);
     let mut k = at - first;
     while 0 < at {
-        if g.records < at {
-            return None;
-        }
-        if g.records <= k {
-            return None;
-        }
-        if !striprecords::is_free(s, g, at) {
+        if g.records < at || g.records <= k || !striprecords::is_free(s, g, at) {
             return None;
         }
         k += 1;

@@ -9,74 +9,44 @@ ghost use Rattle.decode.specs.Decodes.{Decodes};
 use striprecords::Shape;
 
 // The chain of column c, its runs taken to the table from t on.
-fn take_runs(
-    s: &[u16],
-    g: Shape,
-    c: usize,
-    t: usize,
-    lows: &mut [u16],
-    highs: &mut [u16],
-) -> Option<usize>
-    requires fact_1 { Sized s.now g }
-    requires fact_2 { (c < g.columns) × (t ≤ g.records) }
-    requires fact_3 { Room s.now g.records c t }
-    requires fact_4 { (g.records ≤ length lows.old) × (g.records ≤ length highs.old) }
+fn take_runs(s: &[u16], g: Shape, c: usize, t: usize, lows: &mut [u16], highs: &mut [u16]) -> Option<usize>
+    requires sized { Sized s.now g }
+    requires within { (c < g.columns) × (t ≤ g.records) }
+    requires fits { Room s.now g.records c t }
+    requires room { (g.records ≤ length lows.old) × (g.records ≤ length highs.old) }
     ensures { Takes s.now lows.old highs.old lows.new highs.new g.records c t result }
 {
     let mut at = striprecords::word(s, limits::LEADING_WORDS + c);
-    let mut m: usize = 0;
-    let mut k: usize = 0;
+    let mut m = 0;
+    let mut k = 0;
     while 0 < at {
         if g.records <= t + k {
             return None;
         }
-        match chains::check_run(s, g, c, m, at) {
-            Some(h) => {
-                lows[t + k] = striprecords::word_of(s, g, at, limits::LOW) as u16;
-                highs[t + k] = h as u16;
-                m = h + 1;
-                k += 1;
-                at = striprecords::word_of(s, g, at, limits::NEXT);
-            }
-            None => {
-                return None;
-            }
-        }
+        let h = chains::check_run(s, g, c, m, at)?;
+        lows[t + k] = striprecords::word_of(s, g, at, limits::LOW) as u16;
+        highs[t + k] = h as u16;
+        m = h + 1;
+        k += 1;
+        at = striprecords::word_of(s, g, at, limits::NEXT);
     }
     Some(k)
 }
 
 // All chains.
-fn take_all(
-    s: &[u16],
-    g: Shape,
-    first: &mut [u16],
-    lows: &mut [u16],
-    highs: &mut [u16],
-) -> Option<usize>
-    requires fact_1 { Sized s.now g }
-    requires fact_2 { (4097 ≤ length first.old) × (16000 ≤ length lows.old) × (16000 ≤ length highs.old) }
+fn take_all(s: &[u16], g: Shape, first: &mut [u16], lows: &mut [u16], highs: &mut [u16]) -> Option<usize>
+    requires sized { Sized s.now g }
+    requires room { (4097 ≤ length first.old) × (16000 ≤ length lows.old) × (16000 ≤ length highs.old) }
     ensures { Decodes s.now first.new lows.new highs.new result }
 {
     first[0] = 0;
-    let mut t: usize = 0;
-    let mut c: usize = 0;
-    while c < g.columns {
-        match take_runs(s, g, c, t, lows, highs) {
-            Some(k) => {
-                t += k;
-                c += 1;
-                first[c] = t as u16;
-            }
-            None => {
-                return None;
-            }
-        }
+    let mut t = 0;
+    for c in 0..g.columns {
+        t += take_runs(s, g, c, t, lows, highs)?;
+        first[c + 1] = t as u16;
     }
-    match chains::free_chain(s, g) {
-        Some(k) => { if t + k == g.records { Some(t) } else { None } }
-        None => None,
-    }
+    let k = chains::free_chain(s, g)?;
+    if t + k == g.records { Some(t) } else { None }
 }
 
 // The runs of a well-formed strip, by column then low.
@@ -84,8 +54,5 @@ pub fn decode(s: &[u16], first: &mut [u16], lows: &mut [u16], highs: &mut [u16])
     requires { (4097 ≤ length first.old) × (16000 ≤ length lows.old) × (16000 ≤ length highs.old) }
     ensures { Decodes s.now first.new lows.new highs.new result }
 {
-    match form::measure(s) {
-        Some(g) => take_all(s, g, first, lows, highs),
-        None => None,
-    }
+    take_all(s, form::measure(s)?, first, lows, highs)
 }

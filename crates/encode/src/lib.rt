@@ -15,10 +15,7 @@ use defs::Figures;
 fn record_of(i: u16, end: u16) -> u16
     ensures { result ≡ link i end }
 {
-    if i < end {
-        return i + 1;
-    }
-    0
+    if i < end { i + 1 } else { 0 }
 }
 
 // The leading words.
@@ -35,10 +32,8 @@ fn put_firsts(strip: &mut [u16], first: &[u16], n: usize)
     requires { (n < length first.now) × (leading_words + n ≤ length strip.old) }
     ensures { strip.new ≡ sets strip.old leading_words (first_records first.now n) }
 {
-    let mut k = 0;
-    while k < n {
+    for k in 0..n {
         strip[limits::LEADING_WORDS + k] = record_of(first[k], first[k + 1]);
-        k += 1;
     }
 }
 
@@ -61,31 +56,26 @@ fn put_column(
         return;
     }
     let last = end as usize - 1;
-    let mut i = from as usize;
     let mut p = at;
-    while i < last {
+    for i in from as usize..last {
         freerecords::put_four(strip, p, k, lows[i], highs[i], (i + 2) as u16);
         p += limits::RECORD_WORDS;
-        i += 1;
     }
-    freerecords::put_four(strip, p, k, lows[i], highs[i], 0);
+    freerecords::put_four(strip, p, k, lows[last], highs[last], 0);
 }
 
 // The records of the runs of n columns.
 fn put_records(strip: &mut [u16], first: &[u16], lows: &[u16], highs: &[u16], n: usize)
-    requires fact_1 { Flat first.now lows.now highs.now n (get_or first.now n 0) }
-    requires fact_2 { (n ≤ 4096) × (leading_words + n + record_words * get_or first.now n 0 ≤ length strip.old) }
+    requires table { Flat first.now lows.now highs.now n (get_or first.now n 0) }
+    requires room { (n ≤ 4096) × (leading_words + n + record_words * get_or first.now n 0 ≤ length strip.old) }
     ensures { strip.new ≡ sets strip.old (leading_words + n)
         (run_words 0 1 (table_of first.now lows.now highs.now n)) }
 {
     let start = limits::LEADING_WORDS + n;
-    let mut k = 0;
-    while k < n {
+    for k in 0..n {
         let from = first[k];
-        let end = first[k + 1];
         let at = start + limits::RECORD_WORDS * from as usize;
-        put_column(strip, at, k as u16, lows, highs, from, end);
-        k += 1;
+        put_column(strip, at, k as u16, lows, highs, from, first[k + 1]);
     }
 }
 

@@ -18,9 +18,7 @@ pub fn measure(s: &[u16]) -> Option<Shape>
         return None;
     }
     let n = s[limits::COLUMNS];
-    if limits::figures(s[limits::WIDTH], s[limits::RESOLUTION], n, s[limits::GAP]).is_err() {
-        return None;
-    }
+    limits::figures(s[limits::WIDTH], s[limits::RESOLUTION], n, s[limits::GAP]).ok()?;
     if !limits::length_fits(n, l) {
         return None;
     }
@@ -36,31 +34,22 @@ fn whole(s: &[u16], g: Shape) -> bool
     requires { Sized s.now g }
     ensures { result ≡ well_formedb s.now }
 {
-    let mut total: usize = 0;
-    let mut c: usize = 0;
-    while c < g.columns {
-        match chains::column_chain(s, g, c) {
-            Some(k) => {
-                total += k;
-                c += 1;
-            }
-            None => {
-                return false;
-            }
-        }
+    let mut total = 0;
+    for c in 0..g.columns {
+        let Some(k) = chains::column_chain(s, g, c) else {
+            return false;
+        };
+        total += k;
     }
-    match chains::free_chain(s, g) {
-        Some(k) => total + k == g.records,
-        None => false,
-    }
+    let Some(k) = chains::free_chain(s, g) else {
+        return false;
+    };
+    total + k == g.records
 }
 
 // Question 5.
 pub fn well_formed(s: &[u16]) -> bool
     ensures { result ≡ well_formedb s.now }
 {
-    match measure(s) {
-        Some(g) => whole(s, g),
-        None => false,
-    }
+    measure(s).is_some_and(|g| whole(s, g))
 }

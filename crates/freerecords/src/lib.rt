@@ -42,14 +42,11 @@ pub fn put_free(strip: &mut [u16], at: usize, n: u16, t: usize, q: usize)
     if t == q {
         return;
     }
-    let last = q - 1;
-    let mut i = t;
     let mut p = at;
-    while i < last {
+    for i in t..q - 1 {
         let next = (i + 2) as u64;
         put_parts(strip, p, n as u64 + WORD * WORD * WORD * next);
         p += limits::RECORD_WORDS;
-        i += 1;
     }
     put_four(strip, p, n, 0, 0, 0);
 }

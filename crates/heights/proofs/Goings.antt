@@ -86,7 +86,7 @@ pub asks : {f l h r : List ℕ} {N W p w t q c top y k left : ℕ} → Frame f l
 asks {k = k} fr b g fits among top most = (
   run_column_lem fr _ fits b among,
   (
-    (fr.piece.some k (omega (arith, b.few)), omega (arith, fr.piece.tall k (omega (arith, b.few)), fr.over), omega (arith, g.low)),
+    (fr.some k (omega (arith, b.few)), omega (arith, fr.tall k (omega (arith, b.few))), omega (arith, g.low)),
     λ x o. omega (arith, fr.table.within _ x (omega (arith, b.inside k among)) o),
   ),
 )
@@ -102,7 +102,7 @@ module _ {f l h r : List ℕ} {N W p w t q c top y k left z : ℕ} (fr : Frame f
       jumped u a v =
           let s = d.skipped u v a in
           let low = s.jump.lowest in
-          taken u among (omega (arith, b.inside k among)) (fr.piece.some k (omega (arith, b.few)))
+          taken u among (omega (arith, b.inside k among)) (fr.some k (omega (arith, b.few)))
           ((run_column_lem fr c fits b among).runs.full s.jump.which low.from low.to) low s.low (omega (arith, s.high, s.jump.on))
 
   pub going_stop : top < z → W ≤ top + t → NoHeight f l h r N W q t c

@@ -2,6 +2,7 @@
 -- Assumes nothing.
 use Rattle.std.specs.Prelude.{◌≡◌, List, ℕ, ◌+◌, ◌≤◌, ◌<◌, Result, Ok, Err}
 use Rattle.tries.specs.Tries.{ClearTo, Lands}
+use Rattle.walk.specs.declared.sought.Search.{Search}
 use Rattle.walk.specs.Free.{Least, NoHeight}
 
 -- a jump of the rows lo to hi - 1 of column c goes over the height u
@@ -36,3 +37,6 @@ pub record Stopped (f l h r : List ℕ) (N W p t c k : ℕ) : Type 0 where
 abbrev pub Rounded : (f l h r : List ℕ) (N W p t c : ℕ) → Result ℕ ℕ → Type 0
 Rounded f l h r N W p t c (Ok y) = Least f l h r N W p t c y
 Rounded f l h r N W p t c (Err k) = Stopped f l h r N W p t c k
+
+abbrev pub RoundedIn : Search → ℕ → Result ℕ ℕ → Type 0
+RoundedIn s c a = Rounded s.first.now s.lows.now s.highs.now s.runs.now s.columns s.width s.count s.tall c a

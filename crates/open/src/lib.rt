@@ -25,14 +25,11 @@ pub fn open(w: u16, r: u16, n: u16, g: u16, strip: &mut [u16]) -> Result<(), Ref
     if !limits::length_fits(n, strip.len()) {
         return refused(4, 0);
     }
-    put_empty(
-        strip,
-        Figures {
-            width: w,
-            resolution: r,
-            columns: n,
-        },
-        g,
-    );
+    let figures = Figures {
+        width: w,
+        resolution: r,
+        columns: n,
+    };
+    put_empty(strip, figures, g);
     Ok(())
 }

@@ -19,7 +19,7 @@ pub struct Ranked {
 }
 
 // The turn whose runs were put into the work buffer last, over 3 where none was, and how many they are.
-#[derive(Clone, Copy)]
+#[derive(Clone, Copy, Debug, PartialEq, Eq)]
 pub struct Standing {
     pub turn: u16,
     pub runs: usize,
@@ -38,22 +38,17 @@ pub struct Tried {
 fn beats(q: Ranked, p: Ranked) -> bool
     ensures { result ≡ beats_by q p }
 {
-    if q.right == p.right {
-        return q.top < p.top;
-    }
-    q.right < p.right
+    if q.right == p.right { q.top < p.top } else { q.right < p.right }
 }
 
 // The better of two; a tie goes to the first.
 fn better(a: Option<Ranked>, b: Option<Ranked>) -> Option<Ranked>
     ensures { result ≡ better_by a b }
 {
-    match b {
-        None => a,
-        Some(q) => match a {
-            None => Some(q),
-            Some(p) => { if beats(q, p) { Some(q) } else { Some(p) } }
-        },
+    match (a, b) {
+        (Some(p), Some(q)) => Some(if beats(q, p) { q } else { p }),
+        (Some(p), None) => Some(p),
+        (None, q) => q,
     }
 }
 
@@ -61,24 +56,11 @@ pub fn merge(s: Tried, x: Tried) -> Tried
     requires { s.tries + x.tries ≤ 4294967295 }
     ensures { result ≡ merged s x }
 {
-    let a = s.best;
-    let b = x.best;
-    let c = better(a, b);
-    let d = x.stands;
-    let tries = s.tries + x.tries;
-    if s.most < x.most {
-        return Tried {
-            most: x.most,
-            best: c,
-            tries,
-            stands: d,
-        };
-    }
     Tried {
-        most: s.most,
-        best: c,
-        tries,
-        stands: d,
+        most: s.most.max(x.most),
+        best: better(s.best, x.best),
+        tries: s.tries + x.tries,
+        stands: x.stands,
     }
 }
 
@@ -86,10 +68,7 @@ pub fn merge(s: Tried, x: Tried) -> Tried
 pub fn limit_of(c: Option<Ranked>) -> u32
     ensures { result ≡ limit_of c }
 {
-    match c {
-        Some(r) => r.right,
-        None => NO_EDGE,
-    }
+    c.map_or(NO_EDGE, |r| r.right)
 }
 
 // "column × R + w"
@@ -119,8 +98,5 @@ pub fn columns_before(edge: usize, w: u16, r: u16) -> usize
     requires { (1 ≤ r) × (edge ≤ 4294967296) }
     ensures { result ≡ columns_for (edge - w) r }
 {
-    if edge < w as usize {
-        return rounded_up(0, r);
-    }
-    rounded_up(edge - w as usize, r)
+    rounded_up(edge.saturating_sub(w as usize), r)
 }

@@ -3,52 +3,23 @@
 // walk, the heights tried are not.
 #![tactic(auto)]
 
-ghost use Rattle.std.specs.Prelude.{◌≡◌, ◌+◌, ◌-◌, ◌≤◌, ◌<◌, min};
-ghost use Rattle.walk.specs.Free.{Frame};
-ghost use Rattle.round.specs.Range.{SearchedIn};
+ghost use Rattle.round.specs.Range.{SearchedOf};
 
-use walk::{Search, Spot};
-
-// Where the columns end that are below `to` and in which w columns fit.
-fn range_end(n: usize, w: usize, to: usize) -> usize
-    ensures { result ≡ min to (n + 1 - w) }
-{
-    if n < w {
-        return 0;
-    }
-    if n - w < to { n - w + 1 } else { to }
-}
+use walk::Search;
 
 // The least free column from `from` on and below `to`, and the least free height in it.
-pub fn round_range(
-    first: &[u16],
-    lows: &[u16],
-    highs: &[u16],
-    runs: &[u16],
-    s: Search,
-    from: usize,
-    to: usize,
-) -> Spot
-    requires fact_1 { Frame first.now lows.now highs.now runs.now s.columns s.width s.runs s.wide s.tall }
-    requires fact_2 { s.width ≤ 16000 }
-    ensures { SearchedIn first.now lows.now highs.now runs.now s.columns s.width s.runs s.wide s.tall from to result }
+pub fn round_range(s: Search, from: usize, to: usize) -> Option<(usize, u16)>
+    ensures { SearchedOf s.entry from to result }
 {
     if s.width < s.tall {
-        return Spot::None;
+        return None;
     }
-    let end = range_end(s.columns, s.wide, to);
-    let mut c = from;
-    let mut k = 0;
-    while c < end {
-        match heights::round_column(first, lows, highs, runs, s, c, k) {
-            Ok(y) => {
-                return Spot::Found(c, y);
-            }
-            Err(m) => {
-                k = m;
-                c += 1;
-            }
+    let mut start = 0;
+    for c in from..to.min((s.columns + 1).saturating_sub(s.wide)) {
+        match heights::round_column(s, c, start) {
+            Ok(y) => return Some((c, y)),
+            Err(k) => start = k,
         }
     }
-    Spot::None
+    None
 }

@@ -48,7 +48,7 @@ met {p = p} {y = y} {k = k} fr fits b among m =
         λ e. absurd (false≢true e),
         λ free.
             absurd
-            (taken y one (omega (arith, b.inside k among)) (fr.piece.some k one)
+            (taken y one (omega (arith, b.inside k among)) (fr.some k one)
             ((run_column_lem fr _ fits b among).runs.full m.which m.lowest.from m.lowest.to) m.lowest (omega arith)
             m.lowest.over free),
       );

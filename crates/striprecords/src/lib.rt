@@ -7,7 +7,7 @@ ghost use Rattle.laws.proofs.Tests.{Decides};
 ghost use Rattle.striprecords.specs.Free.{Sized, LeadsOn, InOrder};
 
 // W, N and Q of a strip.
-#[derive(Clone, Copy)]
+#[derive(Clone, Copy, Debug, PartialEq, Eq)]
 pub struct Shape {
     pub width: usize,
     pub columns: usize,
@@ -19,41 +19,37 @@ const WORD: usize = 65536;
 
 pub fn word(s: &[u16], i: usize) -> usize
     requires { i < length s.now }
-    ensures fact_1 { result ≡ get_or s.now i 0 }
-    ensures fact_2 { result < 65536 }
+    ensures value { result ≡ get_or s.now i 0 }
+    ensures is_word { result < 65536 }
 {
-    s[i] as usize
+    usize::from(s[i])
 }
 
 // Word i of record r.
 pub fn word_of(s: &[u16], g: Shape, r: usize, i: usize) -> usize
-    requires fact_1 { Sized s.now g }
-    requires fact_2 { (r ≤ g.records) × (i ≤ 3) }
-    ensures fact_1 { result ≡ word_of s.now r i }
-    ensures fact_2 { result < 65536 }
+    requires sized { Sized s.now g }
+    requires within { (r ≤ g.records) × (i ≤ 3) }
+    ensures value { result ≡ word_of s.now r i }
+    ensures is_word { result < 65536 }
 {
     word(s, limits::RECORD_WORDS * r + g.columns + 1 + i)
 }
 
 // "A free record has column N, low and high 0."
 pub fn is_free(s: &[u16], g: Shape, r: usize) -> bool
-    requires fact_1 { Sized s.now g }
-    requires fact_2 { r ≤ g.records }
+    requires sized { Sized s.now g }
+    requires is_record { r ≤ g.records }
     ensures { Decides result (IsFree s.now r) }
 {
-    if word_of(s, g, r, limits::COLUMN) != g.columns {
-        return false;
-    }
-    if word_of(s, g, r, limits::LOW) != 0 {
-        return false;
-    }
-    word_of(s, g, r, limits::HIGH) == 0
+    word_of(s, g, r, limits::COLUMN) == g.columns
+        && word_of(s, g, r, limits::LOW) == 0
+        && word_of(s, g, r, limits::HIGH) == 0
 }
 
 // Is record r free, and r + 1 its next? Its four words, as one number, are compared with what they should be: one read, one branch.
 fn leads_on(s: &[u16], g: Shape, r: usize) -> bool
-    requires fact_1 { Sized s.now g }
-    requires fact_2 { r ≤ g.records }
+    requires sized { Sized s.now g }
+    requires is_record { r ≤ g.records }
     ensures { Decides result (LeadsOn s.now r) }
 {
     let column = word_of(s, g, r, limits::COLUMN);
@@ -73,12 +69,10 @@ pub fn in_order(s: &[u16], g: Shape, r: usize) -> usize
     if r < 1 {
         return r;
     }
-    let mut e = r;
-    while e < g.records {
+    for e in r..g.records {
         if !leads_on(s, g, e) {
             return e;
         }
-        e += 1;
     }
-    e
+    r.max(g.records)
 }

@@ -1,30 +1,14 @@
 // One run of a piece, tried at a height in a column of the table.
 #![tactic(auto)]
 
-ghost use Rattle.std.specs.Prelude.{◌≡◌, ◌+◌, ◌-◌, ◌≤◌, ◌<◌, min};
+ghost use Rattle.std.specs.Prelude.{◌+◌, ◌≤◌, ◌<◌};
 ghost use Rattle.tries.specs.Tries.{Column, Tries};
 
 // What one try of a run of the piece says: it is free up to a height, or the next height to try.
-#[derive(Clone, Copy)]
+#[derive(Clone, Copy, Debug, PartialEq, Eq)]
 pub enum Tried {
     Clear(u16),
     Jump(u16),
-}
-
-// The height at which a run from lo on lies right on one that ends at high.
-fn onto(high: u16, lo: u16) -> u16
-    requires { lo ≤ high }
-    ensures { result + lo ≡ high }
-{
-    high - lo
-}
-
-// The greatest height up to `most` at which a run that ends at hi lies under one from low on.
-fn under(low: u16, hi: u16, most: u16) -> u16
-    requires { hi ≤ low }
-    ensures { result ≡ min most (low - hi) }
-{
-    if most < low - hi { most } else { low - hi }
 }
 
 // Tries the rows lo to hi - 1 of column c, moved to the height y: they stay free up to a height of at most `most`, or they jump onto the
@@ -39,8 +23,8 @@ pub fn try_run(
     y: u16,
     most: u16,
 ) -> Tried
-    requires fact_1 { Column first.now lows.now highs.now c }
-    requires fact_2 { (lo < hi) × (y + hi ≤ 65535) × (y ≤ most) }
+    requires column { Column first.now lows.now highs.now c }
+    requires run { (lo < hi) × (y + hi ≤ 65535) × (y ≤ most) }
     ensures { Tries first.now lows.now highs.now c lo hi y most result }
 {
     let a = first[c] as usize;
@@ -50,8 +34,8 @@ pub fn try_run(
         return Tried::Clear(most);
     }
     if lows[i] < y + hi {
-        Tried::Jump(onto(highs[i], lo))
+        Tried::Jump(highs[i] - lo)
     } else {
-        Tried::Clear(under(lows[i], hi, most))
+        Tried::Clear(most.min(lows[i] - hi))
     }
 }

@@ -12,10 +12,10 @@ use borrow.Author.Count.{below_more}
 use lib.ListN.{get_or}
 use Rattle.geom.proofs.Strip.{lt_or_le}
 use Rattle.tables.specs.Flat.{Occupied, Laid}
-use Rattle.tables.specs.Piece.{run_column, run_low, run_high, PieceRuns}
+use Rattle.tables.specs.Piece.{run_column, run_low, run_high}
 use Rattle.tables.proofs.Flats.{firsts_most}
 use Rattle.tries.specs.Tries.{Column, Lowest, ClearTo, Lands}
-use Rattle.walk.specs.Free.{Frame, Before, FreeTo, GoesOn, Least, NoHeight}
+use Rattle.walk.specs.Free.{Frame, InColumns, Before, FreeTo, GoesOn, Least, NoHeight}
 
 -- the columns of a table laid flat
 column_of_lem : {f l h : List ℕ} {W N n c : ℕ} → Laid f l h W N n → c < N → Column f l h c
@@ -116,7 +116,7 @@ module _ {f l h r : List ℕ} {N W p w t q c top y k stay z : ℕ} (fr : Frame f
             λ u a free.
             ⊎_elim (λ v. g.below.none u v free)
             (λ v.
-            taken u among (omega (arith, b.inside k among)) (fr.piece.some k (omega (arith, b.few)))
+            taken u among (omega (arith, b.inside k among)) (fr.some k (omega (arith, b.few)))
             ((run_column_lem fr c fits b among).runs.full m.which m.lowest.from m.lowest.to) m.lowest v (omega (arith, m.on)) free)
             (lt_or_le u y);
       }
@@ -181,13 +181,13 @@ looking_more {k = k} a e l =
       past = λ m u v. ⊎_elim (λ s. a.past m (omega arith) v) (λ s. let d : m ≡ k = omega arith in rw d l) (lt_or_le k m);
     }
 
-pub looking_found : {r : List ℕ} {p w q x y : ℕ} (k : ℕ) → Looking r p w q → k + 1 ≡ q → PieceRuns r p x y → run_column r k < w → Before r p w q
-looking_found k a e piece l =
+pub looking_found : {r : List ℕ} {p w q : ℕ} (k : ℕ) → Looking r p w q → k + 1 ≡ q → InColumns r p → run_column r k < w → Before r p w q
+looking_found k a e runs l =
     record {
       few = a.few;
       inside =
           λ m u.
-          ⊎_elim (λ s. omega (arith, piece.order m k s (omega (arith, a.few)))) (λ s. let d : m ≡ k = omega arith in rw d l) (lt_or_le m k);
+          ⊎_elim (λ s. omega (arith, runs.order m k s (omega (arith, a.few)))) (λ s. let d : m ≡ k = omega arith in rw d l) (lt_or_le m k);
       past = a.past;
     }
 

@@ -26,7 +26,6 @@ use Rattle.tables.proofs.Flats.{in_flat, in_columns, table_flat}
 use Rattle.tables.proofs.PieceWords.{piece_rows, piece_runs_lem}
 use Rattle.tables.proofs.FreeTest.{Shares, test_by_column, drop_n_at}
 use Rattle.laws.proofs.First.{first_of, none_of}
-use Rattle.walk.specs.declared.Spot.TheVariants.{Found, None as NoSpot}
 use Rattle.walk.specs.Free.{Frame, FreeTo, NoHeight, Searched}
 
 module _ {f l h r : List ℕ} {W N n p : ℕ} (o : List ℕ) (t R g : ℕ) (small : g ≤ 400) (laid : Laid f l h W N n) (stands : Stands (piece_runs o t R g) r p) where
@@ -38,7 +37,13 @@ module _ {f l h r : List ℕ} {W N n p : ℕ} (o : List ℕ) (t R g : ℕ) (smal
 
   pub frame_of : Frame f l h r N W p wide tall
   frame_of =
-      record { count = n; table = laid; reach = _; rows = _; piece = piece_runs_lem o t R g r p stands; over = omega arith }
+      let piece = piece_runs_lem o t R g r p stands in
+      record {
+        table = rw laid.flat.last laid;
+        columns = record { long = piece.long; order = piece.order };
+        some = piece.some;
+        tall = λ k u. omega (arith, piece.tall k u);
+      }
 
   abbrev held : List (List Rows)
   held = table_of f l h N
@@ -93,7 +98,7 @@ module _ {f l h r : List ℕ} {W N n p : ℕ} (o : List ℕ) (t R g : ℕ) (smal
   none_in : (c : ℕ) → c + wide ≤ N → NoHeight f l h r N W p tall c → first_from (at_height_lem c) 0 (W + 1 - tall) ≡ None
   none_in c fits no-height = none_of (at_height_lem c) 0 _ (λ y a b. none_at c y fits (no-height.none y (omega arith)))
 
-  pub found_is : {c y : ℕ} → Searched f l h r N W p wide tall (Found c y) →
+  pub found_is : {c y : ℕ} → Searched f l h r N W p wide tall (Some (c, y)) →
       first_free W R N g held o t ≡ Some (position t c y)
   unfolding first_free
   found_is {c} {y} spot =
@@ -114,6 +119,6 @@ module _ {f l h r : List ℕ} {W N n p : ℕ} (o : List ℕ) (t R g : ℕ) (smal
         before = λ b a u. none_in b (omega (arith, spot.fits)) (spot.least b u);
       })
 
-  pub none_is : Searched f l h r N W p wide tall NoSpot → first_free W R N g held o t ≡ None
+  pub none_is : Searched f l h r N W p wide tall None → first_free W R N g held o t ≡ None
   unfolding first_free
   none_is no-spot = none_of _ 0 _ (λ c a u. none_in c (omega arith) (no-spot c (omega arith)))

@@ -55,7 +55,7 @@ module _ {f l h r : List ℕ} {W N n p : ℕ} (o : List ℕ) (t R g : ℕ) (smal
       let over : rows.low + y < get_or h q 0 = ltb-true _ _ (and_left (ltb (rows.low + y) (get_or h q 0)) _ e) in
       let under : get_or l q 0 < rows.high + y = ltb-true _ _ (and_right (ltb (rows.low + y) (get_or h q 0)) _ e) in
       let full = (laid.runs (c + i) fits).full q from to in
-      let some-rows = (frame_of o t R g small laid stands).piece.some m few in
+      let some-rows = (frame_of o t R g small laid stands).some m few in
       let j = max rows.low (get_or l q 0 - y) in
       clear j (omega (arith, run.low)) (omega (arith, run.low, run.high))
       (subst (λ (a : ℕ). Occupied f l h (c + a) (y + j)) (sym run.column)
@@ -93,7 +93,7 @@ module _ {f l h r : List ℕ} {W N n p : ℕ} (o : List ℕ) (t R g : ℕ) (smal
   clash_is {k} c y few here clear m =
       first_met stands y (there c) k (row_at l h m.which) few
       (λ a i rows u run.
-      let left : c + run_column r a < N = omega (arith, (frame_of o t R g small laid stands).piece.order a k u few) in
+      let left : c + run_column r a < N = omega (arith, (frame_of o t R g small laid stands).columns.order a k u few) in
       clear_run c y (omega (arith, run.column)) (omega arith) run (clear.clear a u left))
       (λ i rows run. met_run c y (omega (arith, run.column)) run m)
 

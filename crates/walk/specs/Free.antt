@@ -1,26 +1,21 @@
 -- A table laid flat, a piece's runs, and the columns and heights at which the piece is free.
 -- Assumes nothing.
-use Rattle.std.specs.Prelude.{List, ℕ, ◌+◌, ◌≤◌, ◌<◌, Option, Some, None}
+use Rattle.std.specs.Prelude.{List, ℕ, ◌+◌, ◌*◌, ◌≤◌, ◌<◌, length, get_or, Option, Some, None}
 use Rattle.tables.specs.Flat.{Occupied, Laid}
-use Rattle.tables.specs.Piece.{run_column, run_low, run_high, PieceRuns}
-use Rattle.walk.specs.declared.Spot.{Spot}
-use Rattle.walk.specs.declared.Spot.TheVariants.{Found, None as NoSpot}
+use Rattle.tables.specs.Piece.{run_column, run_low, run_high}
+
+-- p runs that stand by column
+pub record InColumns (r : List ℕ) (p : ℕ) : Type 0 where
+  pub long : 3 * p ≤ length r
+  pub order : (k m : ℕ) → k < m → m < p → run_column r k ≤ run_column r m
 
 -- a table of N columns and width W laid flat, and p runs of a piece, which is w columns wide and t rows tall; its runs may go further,
 -- at most 400 rows up
 pub record Frame (f l h r : List ℕ) (N W p w t : ℕ) : Type 0 where
-  pub count : ℕ
-  pub table : Laid f l h W N count
-  pub reach : ℕ
-  pub rows : ℕ
-  pub piece : PieceRuns r p reach rows
-  pub over : rows ≤ t + 400
-
--- p runs that stand by column
-pub record InColumns (r : List ℕ) (p : ℕ) : Type 0 where
-  pub reach : ℕ
-  pub rows : ℕ
-  pub piece : PieceRuns r p reach rows
+  pub table : Laid f l h W N (get_or f N 0)
+  pub columns : InColumns r p
+  pub some : (k : ℕ) → k < p → run_low r k < run_high r k
+  pub tall : (k : ℕ) → k < p → run_high r k ≤ t + 400
 
 -- of p runs the first q are in columns before w, and the others are not
 pub record Before (r : List ℕ) (p w q : ℕ) : Type 0 where
@@ -59,6 +54,6 @@ pub record FirstSpot (f l h r : List ℕ) (N W p w t c y : ℕ) : Type 0 where
   pub height : Least f l h r N W p t c y
   pub least : (b : ℕ) → b < c → NoHeight f l h r N W p t b
 
-abbrev pub Searched : (f l h r : List ℕ) (N W p w t : ℕ) → Spot → Type 0
-Searched f l h r N W p w t (Found c y) = FirstSpot f l h r N W p w t c y
-Searched f l h r N W p w t NoSpot = (c : ℕ) → c + w ≤ N → NoHeight f l h r N W p t c
+abbrev pub Searched : (f l h r : List ℕ) (N W p w t : ℕ) → Option (ℕ × ℕ) → Type 0
+Searched f l h r N W p w t (Some (c, y)) = FirstSpot f l h r N W p w t c y
+Searched f l h r N W p w t None = (c : ℕ) → c + w ≤ N → NoHeight f l h r N W p t c

@@ -3,8 +3,7 @@
 use Rattle.std.specs.Prelude.{Bool, true, false, List, ℕ, suc, ◌+◌, ◌≤◌, ◌<◌, Option, Some, None}
 use Rattle.tables.specs.Piece.{run_column, run_low, run_high}
 use Rattle.tries.specs.Tries.{Lands}
-use Rattle.walk.specs.declared.ColumnWalk.{ColumnWalk}
-use Rattle.walk.specs.declared.TurnWalk.{TurnWalk}
+use Rattle.walk.specs.declared.WithTries.{WithTries}
 use Rattle.walk.specs.Free.{FreeTo, Walked, Searched}
 
 -- From height y on the walk of column c makes n tries, and ends at a free height or not: a height past the top is no try; a free one is
@@ -29,13 +28,13 @@ is_up (Some y) = true
 is_up None = false
 
 -- a column: its least free height, and the tries; at most one for each height
-pub record WalkedColumn (f l h r : List ℕ) (N W p t c : ℕ) (a : ColumnWalk) : Type 0 where
-  pub height : Walked f l h r N W p t c a.height
-  pub steps : Steps f l h r N W p t c 0 a.tries (is_up a.height)
+pub record WalkedColumn (f l h r : List ℕ) (N W p t c : ℕ) (a : WithTries (Option ℕ)) : Type 0 where
+  pub height : Walked f l h r N W p t c a.found
+  pub steps : Steps f l h r N W p t c 0 a.tries (is_up a.found)
   pub few : a.tries ≤ 65536
 
 -- a turn: its least free position, and the tries; at most 65,536 in each of 4,097 columns
-pub record WalkedTurn (f l h r : List ℕ) (N W p w t : ℕ) (a : TurnWalk) : Type 0 where
-  pub spot : Searched f l h r N W p w t a.spot
+pub record WalkedTurn (f l h r : List ℕ) (N W p w t : ℕ) (a : WithTries (Option (ℕ × ℕ))) : Type 0 where
+  pub spot : Searched f l h r N W p w t a.found
   pub steps : TurnSteps f l h r N W p w t 0 a.tries
   pub few : a.tries ≤ 268500992

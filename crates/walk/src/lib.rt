@@ -2,41 +2,21 @@
 // tried are counted.
 #![tactic(auto)]
 
-ghost use Rattle.std.specs.Prelude.{◌≡◌, ◌+◌, ◌-◌, ◌≤◌, ◌<◌};
-ghost use Rattle.walk.specs.Free.{Frame, InColumns, Before, GoesOn};
-ghost use Rattle.walk.specs.Steps.{WalkedColumn, WalkedTurn};
+ghost use Rattle.std.specs.Prelude.{◌+◌, ◌≤◌};
+ghost use Rattle.walk.specs.Free.{InColumns, Before, GoesOn};
+ghost use Rattle.walk.specs.Of.{WalkedColumnOf, WalkedTurnOf};
+
+mod sought;
+
+pub use sought::Search;
 
 use tries::Tried;
 
-// What the search of one turn answers: an enum of its own, since document 01 names its cases.
+// What a walk finds, and the tries it made.
 #[derive(Clone, Copy)]
-pub enum Spot {
-    Found(usize, u16),
-    None,
-}
-
-// What the walk of a column answers: its least free height, and the tries.
-#[derive(Clone, Copy)]
-pub struct ColumnWalk {
-    pub height: Option<u16>,
+pub struct WithTries<A> {
+    pub found: A,
     pub tries: u32,
-}
-
-// What the walk of a turn answers: its least free position, and the tries.
-#[derive(Clone, Copy)]
-pub struct TurnWalk {
-    pub spot: Spot,
-    pub tries: u32,
-}
-
-// The figures of a search: columns and width of the table, and the piece's runs, columns and height.
-#[derive(Clone, Copy)]
-pub struct Search {
-    pub columns: usize,
-    pub width: u16,
-    pub runs: usize,
-    pub wide: usize,
-    pub tall: u16,
 }
 
 // The run to try after a jump, and the greatest height up to which the runs before it stay free.
@@ -64,9 +44,10 @@ fn count_before(runs: &[u16], p: usize, w: usize) -> usize
     ensures { Before runs.now p w result }
 {
     let mut q = p;
+    // downwards, so by a `while`
     while 0 < q {
         let k = q - 1;
-        if (runs[3 * k] as usize) < w {
+        if usize::from(runs[3 * k]) < w {
             return q;
         }
         q = k;
@@ -80,33 +61,25 @@ pub fn runs_before(runs: &[u16], p: usize, w: usize) -> usize
     requires { InColumns runs.now p }
     ensures { Before runs.now p w result }
 {
-    if 0 < p {
-        let k = p - 1;
-        if (runs[3 * k] as usize) < w {
-            return p;
-        }
+    if 0 < p && usize::from(runs[3 * (p - 1)]) < w {
+        return p;
     }
     count_before(runs, p, w)
 }
 
 // The least free height in column c, and the tries; what goes past the last column or the top does not count. Runs that stay free up to a height are not
 // tried again until a jump goes above it.
-pub fn walk_column(
-    first: &[u16],
-    lows: &[u16],
-    highs: &[u16],
-    runs: &[u16],
-    s: Search,
-    c: usize,
-) -> ColumnWalk
-    requires fact_1 { Frame first.now lows.now highs.now runs.now s.columns s.width s.runs s.wide s.tall }
-    requires fact_2 { (c + s.wide ≤ s.columns) × (s.tall ≤ s.width) × (s.width ≤ 16000) }
-    ensures { WalkedColumn first.now lows.now highs.now runs.now s.columns s.width s.runs s.tall c result }
+pub fn walk_column(s: Search, c: usize) -> WithTries<Option<u16>>
+    requires { (c + s.wide ≤ s.columns) × (s.tall ≤ s.width) }
+    ensures { WalkedColumnOf s.entry c result }
 {
+    let lows = s.lows;
+    let highs = s.highs;
+    let runs = s.runs;
     let top = s.width - s.tall;
     let n = s.columns;
-    let p = runs_before(runs, s.runs, n - c);
-    let here = &first[c..];
+    let p = runs_before(runs, s.count, n - c);
+    let here = &s.first[c..];
     let mut y: u16 = 0;
     let mut k = 0;
     let mut stay = top;
@@ -122,10 +95,7 @@ pub fn walk_column(
             }
             Tried::Jump(z) => {
                 if top < z {
-                    return ColumnWalk {
-                        height: None,
-                        tries,
-                    };
+                    return WithTries { found: None, tries };
                 }
                 let n = go_on(k, z, stay, top);
                 y = z;
@@ -135,56 +105,22 @@ pub fn walk_column(
             }
         }
     }
-    ColumnWalk {
-        height: Some(y),
-        tries,
-    }
-}
-
-// The walk of a turn in which no column has room.
-fn untried() -> TurnWalk
-    ensures { result ≡ record { spot = Spot.None; tries = 0 } }
-{
-    TurnWalk {
-        spot: Spot::None,
-        tries: 0,
-    }
+    WithTries { found: Some(y), tries }
 }
 
 // The least free column, the least free height in it, and the tries.
-pub fn walk_turn(first: &[u16], lows: &[u16], highs: &[u16], runs: &[u16], s: Search) -> TurnWalk
-    requires fact_1 { Frame first.now lows.now highs.now runs.now s.columns s.width s.runs s.wide s.tall }
-    requires fact_2 { (s.width ≤ 16000) × (s.columns ≤ 4096) }
-    ensures { WalkedTurn first.now lows.now highs.now runs.now s.columns s.width s.runs s.wide s.tall result }
+pub fn walk_turn(s: Search) -> WithTries<Option<(usize, u16)>>
+    ensures { WalkedTurnOf s.entry result }
 {
-    if s.width < s.tall {
-        return untried();
-    }
-    let n = s.columns;
-    let w = s.wide;
-    if n < w {
-        return untried();
-    }
-    let mut c = 0;
     let mut tries: u32 = 0;
-    while c <= n - w {
-        let x = walk_column(first, lows, highs, runs, s, c);
-        tries += x.tries;
-        let at = x.height;
-        match at {
-            Some(y) => {
-                return TurnWalk {
-                    spot: Spot::Found(c, y),
-                    tries,
-                };
-            }
-            None => {
-                c += 1;
+    if s.tall <= s.width {
+        for c in 0..(s.columns + 1).saturating_sub(s.wide) {
+            let x = walk_column(s, c);
+            tries += x.tries;
+            if let Some(y) = x.found {
+                return WithTries { found: Some((c, y)), tries };
             }
         }
     }
-    TurnWalk {
-        spot: Spot::None,
-        tries,
-    }
+    WithTries { found: None, tries }
 }

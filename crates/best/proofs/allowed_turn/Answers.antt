@@ -6,24 +6,24 @@ use Rattle.best.proofs.Turns.{keeps_turn, none_in_turn}
 use Rattle.best.proofs.allowed_turn.Goals as goal
 
 pub try_turn-x-requires : goal.try_turn-x-requires
-try_turn-x-requires c = let pre = c.requires in let ten = pre.fact_3.0 in let is = c.allows.ensures in let yes = c.if-allows.true in record {
-  fact_1 = pre.fact_1;
-  fact_2 = pre.fact_2;
-  fact_3 = keeps_turn _ _ _ pre.fact_2 ten is yes;
-  fact_4 = none_in_turn _ _ _ pre.fact_1.lent pre.fact_1.least pre.fact_1.table pre.fact_2 ten is yes pre.fact_3.1;
+try_turn-x-requires c = let pre = c.requires in let is = c.allows.ensures in let yes = c.if-not-allows.false in record {
+  ready = pre.ready;
+  turn = pre.turn;
+  order = keeps_turn _ _ _ pre.turn pre.ten.0 is yes;
+  none_before = none_in_turn _ _ _ pre.ready.lent pre.ready.least pre.ready.table pre.turn pre.ten.0 is yes pre.ten.1;
 }
 
 pub merge-requires : goal.merge-requires
-merge-requires c = let pre = c.requires in omega (arith, c.try_turn-x.ensures.fact_1.few, pre.fact_4.few, pre.fact_2)
-
-pub returns-then-allows : goal.returns-then-allows
-returns-then-allows c = let pre = c.requires in record {
-  fact_1 = rw c.merge.ensures (turn_more _ pre.fact_4 pre.fact_1.columns pre.fact_1.most (sym c.allows.ensures ∙ c.if-allows.true) c.limit_of-limit.ensures c.try_turn-x.ensures.fact_1);
-  fact_2 = rw c.merge.ensures (c.try_turn-x.ensures.fact_2);
-}
+merge-requires c = let pre = c.requires in omega (arith, c.try_turn-x.ensures.tried.few, pre.so_far.few, pre.turn)
 
 pub returns : goal.returns
 returns c = let pre = c.requires in record {
-  fact_1 = turn_skipped _ pre.fact_4 (sym c.allows.ensures ∙ c.if-allows.false);
-  fact_2 = pre.fact_5;
+  tried = rw c.merge.ensures (turn_more _ pre.so_far pre.ready.columns pre.ready.most (sym c.allows.ensures ∙ c.if-not-allows.false) c.limit_of-limit.ensures c.try_turn-x.ensures.tried);
+  kept = rw c.merge.ensures (c.try_turn-x.ensures.kept);
+}
+
+pub returns-then-not-allows : goal.returns-then-not-allows
+returns-then-not-allows c = let pre = c.requires in record {
+  tried = turn_skipped _ pre.so_far (sym c.allows.ensures ∙ c.if-not-allows.true);
+  kept = pre.kept;
 }

@@ -20,8 +20,8 @@ put_firsts-requires c =
 pub put_records-requires : goal.put_records-requires
 put_records-requires c = let p = c.requires in
     let r = sizes p.fact_2 in record {
-      fact_1 = flat_last p.fact_1;
-      fact_2 = (r.columns, omega (arith, p.fact_1.last));
+      table = flat_last p.fact_1;
+      room = (r.columns, omega (arith, p.fact_1.last));
     }
 
 pub overflow_add-at-2 : goal.overflow_add-at-2

@@ -1,5 +1,5 @@
 -- Each turn of the loop stores the record of one run more, and the last is stored after it. Assumes nothing.
-use mathlib.Core.Path.{refl}
+use mathlib.Core.Path.{◌≡◌, refl}
 use native.Mathlib.Omega.{arith}
 use Prim.Native.Nat.{◌+◌, ◌-◌}
 use Rattle.defs.specs.Computing.Words.{column_words}
@@ -17,18 +17,16 @@ returns-then-from-end c =
 pub loop-i-preserved : goal.loop-i-preserved
 loop-i-preserved c =
     let a = c.args in
-    let l = c.loop-i in
-    let w = l.invariant in (
-      omega (arith, w.0),
+    let l = c.loop-i in (
       omega arith,
-      omega (arith, w.2),
       storing_four {d = l.i + 2} c.put_four.ensures (omega arith)
-          (column_next a.k a.lows.now a.highs.now l.i a.end (omega arith)) w.3,
+          (column_next a.k a.lows.now a.highs.now l.i a.end (omega arith)) l.invariant.1,
     )
 
 pub returns : goal.returns
 returns c =
     let a = c.args in
     let l = c.loop-i in
+    let e : l.i ≡ a.end - 1 = omega arith in
     storing_end refl (storing_four c.put_four-2.ensures refl
-    (column_last a.k a.lows.now a.highs.now l.i a.end (omega arith)) l.invariant.3)
+    (rw e at (column_last a.k a.lows.now a.highs.now l.i a.end (omega arith))) (rw e at l.invariant.1))

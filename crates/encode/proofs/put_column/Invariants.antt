@@ -8,9 +8,6 @@ use Rattle.encode.proofs.put_column.Given as goal
 
 abbrev pub invariant-loop-i : goal.invariant-loop-i
 invariant-loop-i l =
-    (l.from ≤ l.i) × (l.i < l.end) × (l.p + 4 * l.from ≡ l.at + 4 * l.i) ×
+    (l.p + 4 * l.from ≡ l.at + 4 * l.i) ×
     Storing l.initial.strip l.at (column_words l.k (l.from + 1) (rows_from l.lows l.highs l.from (l.end - l.from))) l.strip l.p
     (column_words l.k (l.i + 1) (rows_from l.lows l.highs l.i (l.end - l.i)))
-
-abbrev pub decreases-loop-i : goal.decreases-loop-i
-decreases-loop-i l = l.end - l.i

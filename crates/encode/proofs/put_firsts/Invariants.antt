@@ -7,7 +7,4 @@ use Rattle.words.proofs.Storing.{Storing}
 use Rattle.encode.proofs.put_firsts.Given as goal
 
 abbrev pub invariant-loop-k : goal.invariant-loop-k
-invariant-loop-k l = (l.k ≤ l.n) × Storing l.initial.strip leading_words (first_records l.first l.n) l.strip (leading_words + l.k) (list_from (first_record l.first) l.k (l.n - l.k))
-
-abbrev pub decreases-loop-k : goal.decreases-loop-k
-decreases-loop-k l = l.n - l.k
+invariant-loop-k l = Storing l.initial.strip leading_words (first_records l.first l.n) l.strip (leading_words + l.k) (list_from (first_record l.first) l.k (l.n - l.k))

@@ -4,27 +4,16 @@ use Rattle.encode.proofs.Columns.{recording_start, recording_fits, recording_nex
 use Rattle.encode.proofs.put_records.Goals as goal
 
 pub loop-k-init : goal.loop-k-init
-loop-k-init c = (omega arith, recording_start c.requires.fact_1 _)
-
-pub overflow_cast-at : goal.overflow_cast-at
-overflow_cast-at c = omega (arith, c.type_inv.first c.loop-k.k)
-
-pub overflow_mul-at : goal.overflow_mul-at
-overflow_mul-at c = omega (arith, c.type_inv.first c.loop-k.k)
-
-pub overflow_add-at : goal.overflow_add-at
-overflow_add-at c = omega (arith, c.type_inv.first c.loop-k.k)
+loop-k-init c = recording_start c.requires.table _
 
 pub put_column-requires : goal.put_column-requires
 put_column-requires c =
     let p = c.requires in
-    recording_fits p.fact_1 _ c.loop-k-test.true p.fact_2.1 c.loop-k.invariant.1
+    recording_fits p.table _ c.loop-k-test.true p.room.1 c.loop-k.invariant
 
 pub loop-k-preserved : goal.loop-k-preserved
 loop-k-preserved c =
-    let p = c.requires in
-    let l = c.loop-k-test.true in
-    (omega arith, recording_next p.fact_1 _ l c.loop-k.invariant.1 c.put_column.ensures)
+    recording_next c.requires.table _ c.loop-k-test.true c.loop-k.invariant c.put_column.ensures
 
 pub returns : goal.returns
-returns c = recording_end c.requires.fact_1 _ c.loop-k-test.false c.loop-k.invariant.1
+returns c = recording_end c.requires.table _ c.loop-k-test.false c.loop-k.invariant

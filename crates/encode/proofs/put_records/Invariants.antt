@@ -4,7 +4,4 @@ use Rattle.encode.proofs.Columns.{Recording}
 use Rattle.encode.proofs.put_records.Given as goal
 
 abbrev pub invariant-loop-k : goal.invariant-loop-k
-invariant-loop-k l = (l.k ≤ l.n) × Recording l.first l.lows l.highs l.n l.initial.strip l.strip l.k
-
-abbrev pub decreases-loop-k : goal.decreases-loop-k
-decreases-loop-k l = l.n - l.k
+invariant-loop-k l = Recording l.first l.lows l.highs l.n l.initial.strip l.strip l.k

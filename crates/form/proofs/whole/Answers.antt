@@ -17,9 +17,14 @@ loop-c-preserved c =
     let d = rw c.in-Some.is at c.column_chain.ensures in
     on_next c.loop-c.invariant (omega arith) d
 
-pub returns-in-None : goal.returns-in-None
-returns-in-None c =
-    let d = rw c.in-None.is at c.column_chain.ensures in
+pub returns-in_default : goal.returns-in_default
+returns-in_default c =
+    let d = rw c.in_default.is at c.column_chain.ensures in
+    sym (broken c.loop-c.invariant.sized (omega arith) d)
+
+pub returns-in_default-free_chain : goal.returns-in_default-free_chain
+returns-in_default-free_chain c =
+    let d = rw c.in_default-free_chain.is at c.free_chain.ensures in
     sym (broken c.loop-c.invariant.sized (omega arith) d)
 
 pub overflow_add-result : goal.overflow_add-result
@@ -27,12 +32,7 @@ overflow_add-result c =
     let d = rw c.in-Some-free_chain.is at c.free_chain.ensures in
     omega (arith, end_fits c.loop-c.invariant (omega arith) d)
 
-pub returns-in-Some-free_chain : goal.returns-in-Some-free_chain
-returns-in-Some-free_chain c =
+pub returns : goal.returns
+returns c =
     let d = rw c.in-Some-free_chain.is at c.free_chain.ensures in
     ended c.loop-c.invariant (omega arith) d
-
-pub returns-in-None-free_chain : goal.returns-in-None-free_chain
-returns-in-None-free_chain c =
-    let d = rw c.in-None-free_chain.is at c.free_chain.ensures in
-    sym (broken c.loop-c.invariant.sized (omega arith) d)

@@ -16,18 +16,14 @@ returns-then-t-q c =
 pub loop-i-preserved : goal.loop-i-preserved
 loop-i-preserved c =
     let a = c.args in
-    let l = c.loop-i in
-    let w = l.invariant in (
-      omega (arith, w.0),
+    let l = c.loop-i in (
       omega arith,
-      omega (arith, w.2),
       storing_four {d = l.i + 2} (c.put_parts.ensures ∙ ap (sets l.strip l.p) (free_parts a.n (l.i + 2) (omega arith)))
-          (omega arith) (free_next a.n l.i a.q (omega arith)) w.3,
+          (omega arith) (free_next a.n l.i a.q (omega arith)) l.invariant.1,
     )
 
 pub returns : goal.returns
 returns c =
     let a = c.args in
-    let i = c.loop-i.i in
-    let w = c.loop-i.invariant in
-    storing_end refl (storing_four c.put_four.ensures refl (free_last a.n i a.q (omega arith)) w.3)
+    let l = c.loop-i in
+    storing_end refl (storing_four c.put_four.ensures refl (free_last a.n l.i a.q (omega arith)) l.invariant.1)

@@ -7,8 +7,5 @@ use Rattle.freerecords.proofs.put_free.Given as goal
 
 abbrev pub invariant-loop-i : goal.invariant-loop-i
 invariant-loop-i l =
-    (l.t ≤ l.i) × (l.i < l.q) × (l.p + 4 * l.t ≡ l.at + 4 * l.i) ×
+    (l.p + 4 * l.t ≡ l.at + 4 * l.i) ×
     Storing l.initial.strip l.at (free_words l.n (l.t + 1) (l.q - l.t)) l.strip l.p (free_words l.n (l.i + 1) (l.q - l.i))
-
-abbrev pub decreases-loop-i : goal.decreases-loop-i
-decreases-loop-i l = l.q - l.i

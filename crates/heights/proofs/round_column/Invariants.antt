@@ -6,7 +6,7 @@ use Rattle.heights.proofs.Goings.{Going}
 use Rattle.heights.proofs.round_column.Given as goal
 
 abbrev pub invariant-loop-left : goal.invariant-loop-left
-invariant-loop-left l = Going l.first l.lows l.highs l.runs l.n l.p l.c l.top l.y l.k l.left
+invariant-loop-left l = Going l.s.first.now l.lows l.highs l.runs l.n l.p l.c l.top l.y l.k l.left
 
 abbrev pub decreases-loop-left : goal.decreases-loop-left
 decreases-loop-left l = (l.top - l.y) * l.p + l.left

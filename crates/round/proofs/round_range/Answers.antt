@@ -10,21 +10,13 @@ returns-then-s c = λ x a b e. record { none = λ z u. absurd (omega arith) }
 pub loop-c-init : goal.loop-c-init
 loop-c-init c = (full_none _ _ _ _ _ _ _ _ _, omega arith)
 
-pub round_column-requires : goal.round_column-requires
-round_column-requires c = let pre = c.requires in
-    record {
-      fact_1 = pre.fact_1;
-      fact_2 = (omega (arith, c.range_end-end.ensures), omega arith, pre.fact_2, c.loop-c.invariant.1);
-    }
-
 pub returns-in-Ok : goal.returns-in-Ok
 returns-in-Ok c =
     let g = c.loop-c.invariant.0 in
-    let end = c.range_end-end.ensures in
     record {
       at_least = g.start;
-      below = omega (arith, end);
-      fits = omega (arith, end);
+      below = omega arith;
+      fits = omega arith;
       height = rw c.in-Ok.is at c.round_column.ensures;
       least = λ b u v. g.none b v u;
     }
@@ -35,4 +27,4 @@ loop-c-preserved c =
     (full_more c.loop-c.invariant.0 stop.none, omega (arith, stop.among))
 
 pub returns : goal.returns
-returns c = λ x a b e. c.loop-c.invariant.0.none x (omega (arith, c.range_end-end.ensures)) a
+returns c = λ x a b e. c.loop-c.invariant.0.none x (omega arith) a

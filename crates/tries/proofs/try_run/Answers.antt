@@ -6,13 +6,10 @@ use Rattle.tries.proofs.Tries.{clear_to, lands}
 use Rattle.tries.proofs.try_run.Goals as goal
 
 pub returns-then-e-i : goal.returns-then-e-i
-returns-then-e-i c = clear_to c.requires.fact_1 c.pass-i.ensures (omega arith) (omega arith) (λ l. absurd (omega arith))
-
-pub onto-requires : goal.onto-requires
-onto-requires c = omega (arith, c.pass-i.ensures.found (omega arith))
+returns-then-e-i c = clear_to c.requires.column c.pass-i.ensures (omega arith) (omega arith) (λ l. absurd (omega arith))
 
 pub returns-then-lows-i : goal.returns-then-lows-i
-returns-then-lows-i c = lands c.requires.fact_1 c.pass-i.ensures (omega arith) c.if-lows-i.true c.onto.ensures
+returns-then-lows-i c = lands c.requires.column c.pass-i.ensures (omega arith) c.if-lows-i.true (omega (arith, c.pass-i.ensures.found (omega arith)))
 
 pub returns-else-lows-i : goal.returns-else-lows-i
-returns-else-lows-i c = clear_to c.requires.fact_1 c.pass-i.ensures (omega arith) (omega arith) (λ _. omega arith)
+returns-else-lows-i c = clear_to c.requires.column c.pass-i.ensures (omega arith) (omega arith) (λ _. omega arith)

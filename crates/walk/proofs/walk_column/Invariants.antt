@@ -9,7 +9,7 @@ use Rattle.walk.proofs.walk_column.Given as goal
 
 abbrev pub invariant-loop-k : goal.invariant-loop-k
 invariant-loop-k l =
-    Going l.first l.lows l.highs l.runs l.n l.p l.c l.top l.y l.k l.stay × Counted l.first l.lows l.highs l.runs l.n l.p l.c l.top l.y l.tries
+    Going l.s.first.now l.lows l.highs l.runs l.n l.p l.c l.top l.y l.k l.stay × Counted l.s.first.now l.lows l.highs l.runs l.n l.p l.c l.top l.y l.tries
 
 abbrev pub decreases-loop-k : goal.decreases-loop-k
 decreases-loop-k l = (l.top - l.y) * (l.p + 1) + (l.p - l.k)

@@ -1,15 +1,8 @@
 -- `walk_turn` meets its contract: no column before the one that is tried has a free height, and its tries are counted.
 -- Assumes nothing.
-use mathlib.Core.Logic.{inl, inr}
 use native.Mathlib.Omega.{arith}
 use Rattle.walk.proofs.Counts.{turn_start, turn_more, turn_found, turn_end, none_walked}
 use Rattle.walk.proofs.walk_turn.Goals as goal
-
-pub returns-then-s : goal.returns-then-s
-returns-then-s c = none_walked (inl c.if-s.true) c.untried.ensures
-
-pub returns-then-n-w : goal.returns-then-n-w
-returns-then-n-w c = none_walked (inr c.if-n-w.true) c.untried-then-n-w.ensures
 
 pub loop-c-init : goal.loop-c-init
 loop-c-init c = turn_start _ _ _ _ _ _ _ _ _
@@ -31,13 +24,16 @@ pub loop-c-preserved : goal.loop-c-preserved
 loop-c-preserved c =
     let inv = c.loop-c.invariant in
     let x = c.walk_column-x.ensures in
-    turn_more inv (omega arith) (rw c.in-None.is at x.height) (rw c.in-None.is at x.steps) x.few
+    turn_more inv (omega arith) (rw c.in_default.is at x.height) (rw c.in_default.is at x.steps) x.few
 
-pub returns : goal.returns
-returns c =
+pub returns-after-loop-c : goal.returns-after-loop-c
+returns-after-loop-c c =
     let inv = c.loop-c.invariant in
     record {
       spot = λ x e. inv.left.none x (omega arith);
       steps = turn_end inv (omega arith);
       few = omega (arith, inv.few, inv.within);
     }
+
+pub returns-else-s : goal.returns-else-s
+returns-else-s c = none_walked (omega arith)
