@@ -17,10 +17,7 @@ fn allowed_cell(o: &[u16], b: Bounds, mask: u16, t: u16) -> bool
     requires fact_4 { Question10 o.now mask }
     ensures { AllowedCell o.now mask t result }
 {
-    if checks::allows(mask, t) {
-        return inside::has_cell(o, b, t);
-    }
-    false
+    checks::allows(mask, t) && inside::has_cell(o, b, t)
 }
 
 // Question 11: whether a cell is covered in an allowed turn.
@@ -30,34 +27,21 @@ pub fn some_cell(o: &[u16], b: Bounds, mask: u16) -> bool
     requires fact_3 { Question10 o.now mask }
     ensures { SomeCell o.now mask result }
 {
-    let mut t = 0;
-    while t < 4 {
-        if allowed_cell(o, b, mask, t) {
-            return true;
-        }
-        t += 1;
-    }
-    false
+    (0..4).any(|t| allowed_cell(o, b, mask, t))
 }
 
 // Questions 7 to 10. `ninth` is the answer to 9.
 pub fn order(o: &[u16], ninth: bool, mask: u16) -> Result<Bounds, u16>
     ensures { Says o.now (order_no o.now ninth mask) result }
 {
-    match checks::bounds(o) {
-        Err(n) => Err(n),
-        Ok(b) => {
-            if ninth {
-                if checks::all_keep_order(o, b, mask) {
-                    Ok(b)
-                } else {
-                    Err(10)
-                }
-            } else {
-                Err(9)
-            }
-        }
+    let b = checks::bounds(o)?;
+    if !ninth {
+        return Err(9);
     }
+    if !checks::all_keep_order(o, b, mask) {
+        return Err(10);
+    }
+    Ok(b)
 }
 
 // The first of questions 7 to 11 that gets "no", else 0.

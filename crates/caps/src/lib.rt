@@ -8,10 +8,7 @@ pub fn foot(p: u64, q: u64, d: u64) -> u64
     requires { 0 < d }
     ensures { result ≡ min p q / d }
 {
-    if p < q {
-        return p / d;
-    }
-    q / d
+    p.min(q) / d
 }
 
 // The greatest of two heights, rounded up, at most 16,000.
@@ -19,9 +16,6 @@ pub fn top(p: u64, q: u64, d: u64) -> u64
     requires { (p ≤ 256000000) × (q ≤ 256000000) × (0 < d) × (d ≤ 16000) }
     ensures { result ≡ min 16000 ((max p q + (d - 1)) / d) }
 {
-    let c = numbers::greater(p, q) + (d - 1);
-    if c < 16000 * d {
-        return c / d;
-    }
-    16000
+    let c = p.max(q) + (d - 1);
+    if c < 16000 * d { c / d } else { 16000 }
 }

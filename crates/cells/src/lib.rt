@@ -28,14 +28,12 @@ fn put_column(lows: &[u16], highs: &[u16], n: usize, i: u16, out: &mut [u16], at
     requires { ColumnFits lows.now highs.now n out.old at }
     ensures { out.new ≡ sets out.old at (rows_words i (pairs lows.now highs.now n)) }
 {
-    let mut j = 0;
     let mut p = at;
-    while j < n {
+    for j in 0..n {
         out[p] = i;
         out[p + 1] = lows[j];
         out[p + 2] = highs[j];
         p += 3;
-        j += 1;
     }
 }
 

@@ -19,12 +19,7 @@ pub fn seven(o: &[u16]) -> bool
     ensures { result ≡ q7b o.now }
 {
     let n = o.len();
-    if n % 2 == 0 {
-        if numbers::LEAST_WORDS <= n {
-            return n <= numbers::MOST_WORDS;
-        }
-    }
-    false
+    n % 2 == 0 && (numbers::LEAST_WORDS..=numbers::MOST_WORDS).contains(&n)
 }
 
 // Question 8: each coordinate at most 16,000, so the greatest of them; the contract names the outline.
@@ -33,10 +28,7 @@ fn eight(o: &[u16], b: Bounds) -> bool
     requires fact_2 { BoundsOf o.now b }
     ensures { result ≡ q8b o.now }
 {
-    if b.right <= numbers::MOST_COORDINATE {
-        return b.head <= numbers::MOST_COORDINATE;
-    }
-    false
+    b.right <= numbers::MOST_COORDINATE && b.head <= numbers::MOST_COORDINATE
 }
 
 // Questions 7 and 8.
@@ -57,10 +49,7 @@ pub fn bounds(o: &[u16]) -> Result<Bounds, u16>
 pub fn nine(mask: u16) -> bool
     ensures { result ≡ q9b mask }
 {
-    if 1 <= mask {
-        return mask <= numbers::MOST_MASK;
-    }
-    false
+    (1..=numbers::MOST_MASK).contains(&mask)
 }
 
 // The height of an edge at x, times its width.
@@ -69,11 +58,9 @@ pub fn height_at(s: Side, x: u16) -> u64
     requires fact_2 { (s.xl ≤ x) × (x ≤ s.xr) }
     ensures { HeightOf (edge_of s.xl s.yl s.xr s.yr) x result }
 {
-    let u = numbers::wide(s.xr - x);
-    let v = numbers::wide(x - s.xl);
-    let l = numbers::wide(s.yl);
-    let r = numbers::wide(s.yr);
-    l * u + r * v
+    let u = u64::from(s.xr - x);
+    let v = u64::from(x - s.xl);
+    u64::from(s.yl) * u + u64::from(s.yr) * v
 }
 
 // Whether the first line rises through the second strictly inside a unit.
@@ -81,12 +68,10 @@ fn passes(a0: u64, b0: u64, a1: u64, b1: u64, l: u64) -> bool
     requires { Ends a0 b0 a1 b1 l }
     ensures { result ≡ passesb a0 b0 a1 b1 l }
 {
-    if a0 < b0 {
-        if b1 < a1 {
-            let p = b0 - a0;
-            let q = a1 - b1;
-            return (l * p) % (p + q) != 0;
-        }
+    if a0 < b0 && b1 < a1 {
+        let p = b0 - a0;
+        let q = a1 - b1;
+        return (l * p) % (p + q) != 0;
     }
     false
 }
@@ -95,10 +80,7 @@ fn crosses(a0: u64, b0: u64, a1: u64, b1: u64, l: u64) -> bool
     requires { Ends a0 b0 a1 b1 l }
     ensures { result ≡ crossesb a0 b0 a1 b1 l }
 {
-    if passes(a0, b0, a1, b1, l) {
-        return true;
-    }
-    passes(b0, a0, b1, a1, l)
+    passes(a0, b0, a1, b1, l) || passes(b0, a0, b1, a1, l)
 }
 
 // Whether two edges change order in some unit column, from their heights at the ends of their common span.
@@ -107,16 +89,16 @@ fn swaps(e: Side, f: Side) -> bool
     requires fact_2 { Small f.xl f.yl f.xr f.yr }
     ensures { result ≡ changesb (edge_of e.xl e.yl e.xr e.yr) (edge_of f.xl f.yl f.xr f.yr) }
 {
-    let a = numbers::more(e.xl, f.xl);
-    let b = numbers::less(e.xr, f.xr);
+    let a = e.xl.max(f.xl);
+    let b = e.xr.min(f.xr);
     if a < b {
-        let v = numbers::wide(e.xr - e.xl);
-        let w = numbers::wide(f.xr - f.xl);
+        let v = u64::from(e.xr - e.xl);
+        let w = u64::from(f.xr - f.xl);
         let e0 = height_at(e, a);
         let f0 = height_at(f, a);
         let e1 = height_at(e, b);
         let f1 = height_at(f, b);
-        return crosses(e0 * w, f0 * v, e1 * w, f1 * v, numbers::wide(b - a));
+        return crosses(e0 * w, f0 * v, e1 * w, f1 * v, u64::from(b - a));
     }
     false
 }
@@ -125,15 +107,7 @@ fn swaps(e: Side, f: Side) -> bool
 fn beside(lo: u16, hi: u16, p: u16, q: u16) -> bool
     ensures { result ≡ false → Outside lo hi p q }
 {
-    if p <= lo {
-        if q <= lo {
-            return false;
-        }
-    }
-    if hi <= p {
-        return q < hi;
-    }
-    true
+    !(p <= lo && q <= lo || hi <= p && hi <= q)
 }
 
 // Whether e, between heights lo and hi, changes order with edge j, which goes from y = p to y = q. Its x are read only where it is beside e,
@@ -165,17 +139,15 @@ fn row(o: &[u16], f: Frame, e: Side, i: usize) -> bool
     requires fact_4 { Small e.xl e.yl e.xr e.yr }
     ensures { result ≡ rowb (turned o.now f.turn) (edge_of e.xl e.yl e.xr e.yr) i }
 {
-    let lo = numbers::less(e.yl, e.yr);
-    let hi = numbers::more(e.yl, e.yr);
+    let lo = e.yl.min(e.yr);
+    let hi = e.yl.max(e.yr);
     let mut p = outline::y_at(o, f, 0);
-    let mut j = 0;
-    while j < i {
+    for j in 0..i {
         let q = outline::y_at(o, f, j + 1);
         if changes(o, f, e, lo, hi, j, p, q) {
             return true;
         }
         p = q;
-        j += 1;
     }
     false
 }
@@ -188,15 +160,13 @@ pub fn keeps_order(o: &[u16], f: Frame) -> bool
 {
     let n = o.len() / 2;
     let mut u = outline::vertex_at(o, f, 0);
-    let mut i = 0;
-    while i < n {
+    for i in 0..n {
         let v = outline::vertex_at(o, f, outline::next(n, i));
         let e = outline::side_of(u, v);
         if row(o, f, e, i) {
             return false;
         }
         u = v;
-        i += 1;
     }
     true
 }
@@ -206,16 +176,7 @@ pub fn allows(mask: u16, t: u16) -> bool
     requires { t ≤ 3 }
     ensures { result ≡ allowedb mask t }
 {
-    if t < 2 {
-        if t == 0 {
-            return mask % 2 == 1;
-        }
-        return mask / 2 % 2 == 1;
-    }
-    if t == 2 {
-        return mask / 4 % 2 == 1;
-    }
-    mask / 8 % 2 == 1
+    (mask >> t) & 1 == 1
 }
 
 // Whether turn t keeps the order, if the mask allows it.
@@ -225,10 +186,7 @@ fn turn_keeps(o: &[u16], b: Bounds, mask: u16, t: u16) -> bool
     requires fact_3 { t ≤ 3 }
     ensures { result ≡ turnb o.now mask t }
 {
-    if allows(mask, t) {
-        return keeps_order(o, outline::frame_of(o, b, t));
-    }
-    true
+    !allows(mask, t) || keeps_order(o, outline::frame_of(o, b, t))
 }
 
 // Question 10: whether no two edges change order in an allowed turn.
@@ -237,13 +195,5 @@ pub fn all_keep_order(o: &[u16], b: Bounds, mask: u16) -> bool
     requires fact_2 { BoundsOf o.now b }
     ensures { result ≡ ordersb o.now mask }
 {
-    let mut t = 0;
-    while t < 4 {
-        if turn_keeps(o, b, mask, t) {
-            t += 1;
-        } else {
-            return false;
-        }
-    }
-    true
+    (0..4).all(|t| turn_keeps(o, b, mask, t))
 }

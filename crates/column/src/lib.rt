@@ -13,7 +13,7 @@ use cuts::Section;
 use outline::Frame;
 
 // The runs of a column, and the slab that was looked at last.
-#[derive(Clone, Copy)]
+#[derive(Clone, Copy, Debug, PartialEq, Eq)]
 pub struct Filled {
     pub runs: usize,
     pub slab: Section,
@@ -25,9 +25,10 @@ fn on_line(p: u64, q: u64, l: u64, d: u64) -> u64
     ensures { result ≡ on_line p q l d }
 {
     if p < q {
-        return p + (q - p) / l * d;
+        p + (q - p) / l * d
+    } else {
+        p - (p - q) / l * d
     }
-    p - (p - q) / l * d
 }
 
 // The heights of the entries at distances d0 and d1 from the left end of their slab, which is l wide.
@@ -37,13 +38,11 @@ fn part(h0: &[u64], h1: &[u64], m: usize, l: u64, d0: u64, d1: u64, g0: &mut [u6
     requires fact_3 { (length g0.old ≡ 64) × (length g1.old ≡ 64) }
     ensures { Parted h0.now h1.now l d0 d1 g0.new g1.new m }
 {
-    let mut x = 0;
-    while x < m {
+    for x in 0..m {
         let p = h0[x];
         let q = h1[x];
         g0[x] = on_line(p, q, l, d0);
         g1[x] = on_line(p, q, l, d1);
-        x += 1;
     }
 }
 
@@ -68,14 +67,12 @@ fn portion(
     ensures { AddsPart h0.now h1.now w.now s.start s.end s.count x0 x1 lows.old highs.old lows.new highs.new n result }
 {
     let m = s.count as usize;
-    if s.start == x0 {
-        if x1 == s.end {
-            return gaps::gaps(h0, h1, w, m, lows, highs, n);
-        }
+    if s.start == x0 && x1 == s.end {
+        return gaps::gaps(h0, h1, w, m, lows, highs, n);
     }
-    let l = numbers::wide(s.end - s.start);
-    let d0 = numbers::wide(x0 - s.start);
-    let d1 = numbers::wide(x1 - s.start);
+    let l = u64::from(s.end - s.start);
+    let d0 = u64::from(x0 - s.start);
+    let d1 = u64::from(x1 - s.start);
     part(h0, h1, m, l, d0, d1, g0, g1);
     gaps::gaps(g0, g1, w, m, lows, highs, n)
 }
@@ -107,7 +104,7 @@ pub fn column(
     let mut a = from;
     while a < to {
         k = section::held(o, f, a, to, k, h0, h1, w);
-        let e = numbers::less(k.end, to);
+        let e = k.end.min(to);
         n = portion(k, a, e, h0, h1, w, g0, g1, lows, highs, n);
         a = e;
     }

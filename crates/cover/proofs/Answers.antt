@@ -4,7 +4,7 @@ use mathlib.Core.Path.{◌≡◌, refl, subst}
 use mathlib.Core.Logic.{◌↔◌, ⊎_elim}
 use mathlib.Core.Bool.{Bool, true, false, cond}
 use mathlib.Core.List.{List}
-use Prim.Native.Nat.{ℕ, zero, suc, ◌+◌, ◌*◌, ◌-◌, ◌^◌, ◌≤◌, ◌<◌}
+use Prim.Native.Nat.{ℕ, zero, suc, ◌*◌, ◌%◌, ◌^◌, ◌≤◌, ◌<◌}
 use native.Mathlib.Omega.{arith}
 use lib.Dec.{leb, ltb, eqb}
 use borrow.Author.Tests.{le-leb, lt-leb, lt-ltb, leb-true}
@@ -37,18 +37,13 @@ module _ (o : List ℕ) (t : ℕ) where
 pub said : (o : List ℕ) (a : Result Bounds ℕ) {m n : ℕ} → m ≡ n → Says o m a → Says o n a
 said o a e s = subst (λ (n : ℕ). Says o n a) e s
 
--- the bits of the four turns
-pub low_bit : (t : ℕ) → t < 2 → t + 1 ≡ 2 ^ t
-low_bit zero l = refl
-low_bit (suc zero) l = refl
-low_bit (suc (suc t)) l = absurd (omega arith)
-
-pub high_bit : (t : ℕ) → t ≤ 3 → 2 ≤ t → 4 * (t - 1) ≡ 2 ^ t
-high_bit zero m l = absurd (omega arith)
-high_bit (suc zero) m l = absurd (omega arith)
-high_bit (suc (suc zero)) m l = refl
-high_bit (suc (suc (suc zero))) m l = refl
-high_bit (suc (suc (suc (suc t)))) m l = absurd (omega arith)
+-- the bit of a turn
+pub one_bit : (t : ℕ) → t ≤ 3 → 1 * 2 ^ t % 65536 ≡ 2 ^ t
+one_bit zero l = refl
+one_bit (suc zero) l = refl
+one_bit (suc (suc zero)) l = refl
+one_bit (suc (suc (suc zero))) l = refl
+one_bit (suc (suc (suc (suc t)))) l = absurd (omega arith)
 
 -- none of them got "no"
 pub record Passed (o : List ℕ) (t : ℕ) : Type 0 where

@@ -1,7 +1,7 @@
 // The cells of an outline in a turn: cover.
 #![tactic(auto)]
 
-ghost use Rattle.std.specs.Prelude.{◌≡◌, ◌≤◌, ◌^◌};
+ghost use Rattle.std.specs.Prelude.{◌≡◌};
 ghost use Rattle.std.proofs.lemmas.List.Edits.{sets};
 ghost use Rattle.defs.specs.Meaning.Outline.{KeepsOrder};
 ghost use Rattle.defs.specs.Meaning.Turn.{turned, extent_x, extent_y};
@@ -20,17 +20,6 @@ const KEPT_RUNS: usize = 512;
 
 const KEPT_WORDS: usize = 1536;
 
-// The mask that allows turn t alone.
-fn alone(t: u16) -> u16
-    requires { t ≤ 3 }
-    ensures { result ≡ 2 ^ t }
-{
-    if t < 2 {
-        return t + 1;
-    }
-    4 * (t - 1)
-}
-
 // Questions 7 to 10 with turn t alone allowed, 9 of the turn.
 pub fn order(o: &[u16], t: u16) -> Result<Bounds, u16>
     ensures { Says o.now (turn_no o.now t) result }
@@ -38,7 +27,7 @@ pub fn order(o: &[u16], t: u16) -> Result<Bounds, u16>
     if numbers::MOST_TURN < t {
         return asked::order(o, false, 0);
     }
-    asked::order(o, true, alone(t))
+    asked::order(o, true, 1 << t)
 }
 
 // The k runs of an outline at the start of the output: copied where they were kept, and else worked out again.

@@ -12,7 +12,7 @@ use outline::Frame;
 
 // The slab that was looked at last, from x = start to x = end, how many edges span it, and where the next slab may end. Empty where
 // start is end. Four words of 16 bits, so that one move copies it: it goes through several calls for each column.
-#[derive(Clone, Copy)]
+#[derive(Clone, Copy, Debug, PartialEq, Eq)]
 pub struct Section {
     pub start: u16,
     pub end: u16,
@@ -39,13 +39,9 @@ pub fn cut(o: &[u16], f: Frame, a: u16, to: u16) -> u16
     requires fact_3 { a < to }
     ensures { CutAt (turned o.now f.turn) a (sides o.now) result }
 {
-    let n = o.len() / 2;
     let mut r = to;
-    let mut i = 0;
-    while i < n {
-        let x = outline::x_at(o, f, i);
-        r = entries::nearer(a, x, r);
-        i += 1;
+    for i in 0..o.len() / 2 {
+        r = entries::nearer(a, outline::x_at(o, f, i), r);
     }
     r
 }
@@ -55,13 +51,11 @@ pub fn tidy(h0: &[u64], h1: &[u64], w: &[u64], m: usize) -> bool
     requires { AllFit h0.now h1.now w.now m }
     ensures { result ≡ true → Rising h1.now w.now m }
 {
-    let mut x = 1;
-    while x < m {
+    for x in 1..m {
         let y = x - 1;
         if h1[x] * w[y] < h1[y] * w[x] {
             return false;
         }
-        x += 1;
     }
     true
 }
@@ -74,10 +68,8 @@ pub fn slab_end(o: &[u16], f: Frame, a: u16, to: u16, s: Section) -> u16
     requires fact_4 { NextAt (turned o.now f.turn) s.end (sides (turned o.now f.turn)) s.cut }
     ensures { CutAt (turned o.now f.turn) a (sides o.now) result }
 {
-    if a == s.end {
-        if a < s.cut {
-            return s.cut;
-        }
+    if a == s.end && a < s.cut {
+        return s.cut;
     }
-    cut(o, f, a, numbers::more(to, numbers::MOST_COORDINATE))
+    cut(o, f, a, to.max(numbers::MOST_COORDINATE))
 }

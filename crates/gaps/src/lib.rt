@@ -26,7 +26,7 @@ fn gap(
         let lo = caps::foot(h0[x], h1[x], w[x]);
         let hi = caps::top(h0[y], h1[y], w[y]);
         if lo < hi {
-            return join::join(lows, highs, n, numbers::narrow(lo), numbers::narrow(hi));
+            return join::join(lows, highs, n, lo as u16, hi as u16);
         }
     }
     n

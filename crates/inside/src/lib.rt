@@ -15,13 +15,7 @@ fn apart(h0: &[u64], h1: &[u64], w: &[u64], m: usize) -> bool
     requires { AllFit h0.now h1.now w.now m }
     ensures { result ≡ true → LowestApart h0.now h1.now w.now m }
 {
-    if m < 2 {
-        return false;
-    }
-    if 16000 * w[0] <= h0[0] {
-        return false;
-    }
-    (h0[0] + h1[0]) * w[1] < (h0[1] + h1[1]) * w[0]
+    2 <= m && h0[0] < 16000 * w[0] && (h0[0] + h1[0]) * w[1] < (h0[1] + h1[1]) * w[0]
 }
 
 // Whether the two lowest edges of the first slab are apart: a cell is covered between them.
@@ -93,10 +87,5 @@ pub fn has_cell(o: &[u16], b: Bounds, t: u16) -> bool
 {
     let e = outline::extent_of(o, b, t);
     let f = outline::frame_of(o, b, t);
-    if 0 < e.w {
-        if opens_left(o, f, e.w) {
-            return true;
-        }
-    }
-    has_run(o, f, e.w)
+    0 < e.w && opens_left(o, f, e.w) || has_run(o, f, e.w)
 }

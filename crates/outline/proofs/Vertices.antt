@@ -41,10 +41,15 @@ most_more {a} f i h p q =
     q ∙ ap (λ (m : ℕ). max m (f i)) p ∙ sym (ap (most_n f) e ∙ ap (λ (x : ℕ). max (most_n f (i - 1)) (f x)) g)
 
 -- the frame of a turn, by the corner that the turn takes to (0, 0)
-pub frame_at : {o : List ℕ} {t x y w : ℕ} (n : ℕ) → t ≡ n → n ≤ 3 → x ≡ corner_x o n → y ≡ corner_y o n → w ≡ t % 2 →
-    FrameOf o (record { turn = t; x = x; y = y; word = w })
-frame_at {o} n e m ex ey word =
-    record { turn = omega arith; x = ex ∙ ap (corner_x o) (sym e); y = ey ∙ ap (corner_y o) (sym e); word = word }
+pub frame_at : {o : List ℕ} {t x y : ℕ} {p : ℕ × ℕ} (n : ℕ) → t ≡ n → n ≤ 3 → p ≡ (x, y) → x ≡ corner_x o n → y ≡ corner_y o n →
+    FrameOf o (record { turn = t; x = p.0; y = p.1; word = t % 2 })
+frame_at {o} n e m is ex ey =
+    record {
+      turn = omega arith;
+      x = ap (λ (q : ℕ × ℕ). q.0) is ∙ ex ∙ ap (corner_x o) (sym e);
+      y = ap (λ (q : ℕ × ℕ). q.1) is ∙ ey ∙ ap (corner_y o) (sym e);
+      word = refl;
+    }
 
 -- what is read by a frame
 module _ {o : List ℕ} {f : Frame} (k : FrameOf o f) (i : ℕ) where

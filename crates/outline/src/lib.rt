@@ -8,7 +8,7 @@ ghost use Rattle.defs.specs.Computing.Vertices.{distance, read_x, read_y};
 ghost use Rattle.outline.specs.Vertex.{Lent, BoundsOf, FrameOf, VertexOf, SideOf, edge_of};
 
 // The least and the greatest x and y of an outline.
-#[derive(Clone, Copy)]
+#[derive(Clone, Copy, Debug, PartialEq, Eq)]
 pub struct Bounds {
     pub left: u16,
     pub right: u16,
@@ -17,13 +17,13 @@ pub struct Bounds {
 }
 
 // The width and the height of an outline in a turn.
-#[derive(Clone, Copy)]
+#[derive(Clone, Copy, Debug, PartialEq, Eq)]
 pub struct Extent {
     pub w: u16,
     pub h: u16,
 }
 
-#[derive(Clone, Copy)]
+#[derive(Clone, Copy, Debug, PartialEq, Eq)]
 pub struct Vertex {
     pub x: u16,
     pub y: u16,
@@ -31,7 +31,7 @@ pub struct Vertex {
 
 // How a turn reads a vertex: its distances from the corner (x, y) of the bounds that the turn takes to (0, 0), x by its first word (0) or
 // its second (1). Four words of 16 bits, so that one register holds it.
-#[derive(Clone, Copy)]
+#[derive(Clone, Copy, Debug, PartialEq, Eq)]
 pub struct Frame {
     pub turn: u16,
     pub x: u16,
@@ -40,7 +40,7 @@ pub struct Frame {
 }
 
 // An edge, the left end first.
-#[derive(Clone, Copy)]
+#[derive(Clone, Copy, Debug, PartialEq, Eq)]
 pub struct Side {
     pub xl: u16,
     pub yl: u16,
@@ -53,26 +53,23 @@ pub fn bounds_of(o: &[u16]) -> Bounds
     requires { 1 ≤ sides o.now }
     ensures { BoundsOf o.now result }
 {
-    let n = o.len() / 2;
-    let mut x0 = o[0];
-    let mut x1 = x0;
-    let mut y0 = o[1];
-    let mut y1 = y0;
-    let mut i = 1;
-    while i < n {
+    let mut left = o[0];
+    let mut right = o[0];
+    let mut foot = o[1];
+    let mut head = o[1];
+    for i in 1..o.len() / 2 {
         let x = o[2 * i];
         let y = o[2 * i + 1];
-        x0 = numbers::less(x0, x);
-        x1 = numbers::more(x1, x);
-        y0 = numbers::less(y0, y);
-        y1 = numbers::more(y1, y);
-        i += 1;
+        left = left.min(x);
+        right = right.max(x);
+        foot = foot.min(y);
+        head = head.max(y);
     }
     Bounds {
-        left: x0,
-        right: x1,
-        foot: y0,
-        head: y1,
+        left,
+        right,
+        foot,
+        head,
     }
 }
 
@@ -98,47 +95,18 @@ pub fn frame_of(o: &[u16], b: Bounds, t: u16) -> Frame
     requires fact_2 { t ≤ 3 }
     ensures { (result.turn ≡ t) × FrameOf o.now result }
 {
-    let word = t % 2;
-    if t < 2 {
-        if t == 0 {
-            Frame {
-                turn: t,
-                x: b.left,
-                y: b.foot,
-                word: word,
-            }
-        } else {
-            Frame {
-                turn: t,
-                x: b.head,
-                y: b.left,
-                word: word,
-            }
-        }
-    } else {
-        if t == 2 {
-            Frame {
-                turn: t,
-                x: b.right,
-                y: b.head,
-                word: word,
-            }
-        } else {
-            Frame {
-                turn: t,
-                x: b.foot,
-                y: b.right,
-                word: word,
-            }
-        }
+    let (x, y) = match t {
+        0 => (b.left, b.foot),
+        1 => (b.head, b.left),
+        2 => (b.right, b.head),
+        _ => (b.foot, b.right),
+    };
+    Frame {
+        turn: t,
+        x,
+        y,
+        word: t % 2,
     }
-}
-
-// How far two numbers are apart.
-fn apart(a: u16, b: u16) -> u16
-    ensures { result ≡ distance a b }
-{
-    if a < b { b - a } else { a - b }
 }
 
 // x of vertex i in the frame's turn: how far its word is from the corner.
@@ -147,7 +115,7 @@ pub fn x_at(o: &[u16], f: Frame, i: usize) -> u16
     requires fact_2 { i < sides o.now }
     ensures { result ≡ read_x o.now f.turn i }
 {
-    apart(f.x, o[2 * i + f.word as usize])
+    f.x.abs_diff(o[2 * i + f.word as usize])
 }
 
 // y of vertex i, by its other word.
@@ -156,7 +124,7 @@ pub fn y_at(o: &[u16], f: Frame, i: usize) -> u16
     requires fact_2 { i < sides o.now }
     ensures { result ≡ read_y o.now f.turn i }
 {
-    apart(f.y, o[2 * i + (1 - f.word as usize)])
+    f.y.abs_diff(o[2 * i + (1 - f.word as usize)])
 }
 
 // Vertex i of the outline in the frame's turn.
@@ -168,7 +136,7 @@ pub fn vertex_at(o: &[u16], f: Frame, i: usize) -> Vertex
 {
     let x = x_at(o, f, i);
     let y = y_at(o, f, i);
-    Vertex { x: x, y: y }
+    Vertex { x, y }
 }
 
 // The vertex after i.
@@ -176,10 +144,7 @@ pub fn next(n: usize, i: usize) -> usize
     requires { i < n }
     ensures { (result ≡ after n i) × (result < n) }
 {
-    if i + 1 == n {
-        return 0;
-    }
-    i + 1
+    if i + 1 == n { 0 } else { i + 1 }
 }
 
 // The edge between two vertices, the left end first.

@@ -10,12 +10,9 @@ fn put_run(lows: &mut [u16], highs: &mut [u16], m: usize, lo: u16, hi: u16) -> u
     requires { (m < length lows.old) × (m < length highs.old) }
     ensures { Puts lows.old highs.old m lo hi lows.new highs.new result }
 {
-    if 0 < m {
-        let k = m - 1;
-        if lo <= highs[k] {
-            highs[k] = hi;
-            return m;
-        }
+    if 0 < m && lo <= highs[m - 1] {
+        highs[m - 1] = hi;
+        return m;
     }
     lows[m] = lo;
     highs[m] = hi;
@@ -33,12 +30,10 @@ pub fn raise(lows: &mut [u16], highs: &mut [u16], n: usize, g: u16) -> usize
         return n;
     }
     let mut m = 0;
-    let mut i = 0;
-    while i < n {
+    for i in 0..n {
         let lo = lows[i];
         let hi = highs[i] + g;
         m = put_run(lows, highs, m, lo, hi);
-        i += 1;
     }
     m
 }

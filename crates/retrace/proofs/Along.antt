@@ -2,23 +2,12 @@
 -- Assumes nothing.
 use mathlib.Core.Path.{◌≡◌, refl, sym, ap, ap₂, ◌∙◌}
 use mathlib.Core.Bool.{Bool, true, false, ◌&&◌}
-use mathlib.Core.Logic.{◌≢◌}
 use Prim.Native.Nat.{ℕ, ◌+◌, ◌*◌, ◌-◌, ◌≤◌, ◌<◌, max, min}
-use native.Mathlib.Omega.{arith}
 use lib.Dec.{ltb, eqb}
-use borrow.Author.Tests.{lt-ltb, le-ltb, eq-eqb, ne_eqb}
+use borrow.Author.Tests.{lt-ltb, le-ltb}
 use Rattle.defs.specs.Meaning.Outline.{Edge}
 use Rattle.checks.specs.Order.{HeightOf}
-use Rattle.checks.proofs.Pairs.{product}
 use Rattle.strokes.specs.Retrace.{rise_alike, level, run_along, stand_along, sharesb}
-
--- a product of two numbers that are at most 16,000
-pub small_product : {a b x y : ℕ} → a ≡ x → x ≤ 16000 → b ≡ y → y ≤ 16000 → a * b ≤ 256000000
-small_product {a} {b} e l f m = omega (arith, product a b 16000 16000 (omega arith) (omega arith))
-
--- a height times a width
-pub high_product : {e : Edge} {x h w y : ℕ} → HeightOf e x h → w ≡ y → y ≤ 16000 → h * w ≤ 4096000000000
-high_product {h = h} {w = w} t f m = omega (arith, product h w 256000000 16000 t.most (omega arith))
 
 module _ (e f : Edge) where
   pub alike_is : {v w a b c d : ℕ} → v ≡ e.xr - e.xl → w ≡ f.xr - f.xl → a ≡ e.yl → b ≡ e.yr → c ≡ f.yl → d ≡ f.yr →
@@ -49,24 +38,6 @@ module _ (e f : Edge) where
 
     pub run_level : {r t : Bool} → a < b → r ≡ rise_alike e f → r ≡ true → t ≡ level e f a → t ≡ run_along e f
     run_level l er yes-one et = et ∙ sym (ap (λ (t : Bool). t && level e f a) yes-one) ∙ run_by l er
-
-  pub slanted_first : e.xl ≢ e.xr → false ≡ stand_along e f
-  unfolding stand_along
-  slanted_first h = rw (ne_eqb e.xl e.xr h) refl
-
-  pub slanted_second : e.xl ≡ e.xr → f.xl ≢ f.xr → false ≡ stand_along e f
-  unfolding stand_along
-  slanted_second h k = rw (eq-eqb e.xl e.xr h, ne_eqb f.xl f.xr k) refl
-
-  pub stand_apart : e.xl ≡ e.xr → f.xl ≡ f.xr → e.xl ≢ f.xl → false ≡ stand_along e f
-  unfolding stand_along
-  stand_apart h k m = rw (eq-eqb e.xl e.xr h, eq-eqb f.xl f.xr k, ne_eqb e.xl f.xl m) refl
-
-  pub stand_by : {low high : ℕ} → e.xl ≡ e.xr → f.xl ≡ f.xr → e.xl ≡ f.xl →
-      low ≡ max (min e.yl e.yr) (min f.yl f.yr) → high ≡ min (max e.yl e.yr) (max f.yl f.yr) →
-      ltb low high ≡ stand_along e f
-  unfolding stand_along
-  stand_by h k m el eh = rw (eq-eqb e.xl e.xr h, eq-eqb f.xl f.xr k, eq-eqb e.xl f.xl m, el, eh) refl
 
   pub shares_run : {r : Bool} → r ≡ run_along e f → r ≡ true → true ≡ sharesb e f
   unfolding sharesb

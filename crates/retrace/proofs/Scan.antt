@@ -1,11 +1,11 @@
 -- The edges of an outline as it is lent, gone through in order: what is left to look at gives what is found first.
 -- Assumes nothing.
-use mathlib.Core.Path.{◌≡◌, sym, ap, ap₂, ◌∙◌}
+use mathlib.Core.Path.{◌≡◌, refl, sym, ap, ap₂, ◌∙◌}
 use mathlib.Core.Bool.{Bool, true, false, cond}
 use mathlib.Core.List.{List}
 use Prim.Native.Nat.{ℕ, suc, ◌+◌, ◌*◌, ◌-◌, ◌<◌}
 use native.Mathlib.Omega.{arith}
-use Rattle.std.specs.Prelude.{Option, Some, None, Result, Err}
+use Rattle.std.specs.Prelude.{Option, Some, None, Result, Ok, Err}
 use Rattle.defs.specs.declared.Refusal.{Refusal}
 use Rattle.defs.specs.declared.EdgePair.{EdgePair}
 use Rattle.defs.specs.Meaning.Outline.{vx, vy, sides, after, edge_at, edge_between}
@@ -63,12 +63,16 @@ pair_found o i j h = ap (numbered i) h
 pub pair_none : (o : List ℕ) (i : ℕ) → shared_after o i ≡ None → pair_at o i ≡ None
 pair_none o i h = ap (numbered i) h
 
+traced_is : (p : Option EdgePair) → Ok p ≡ traced p
+traced_is None = refl
+traced_is (Some p) = refl
+
 -- the call
 module _ {o : List ℕ} {a : Result (Option EdgePair) Refusal} where
   pub refused_no : {n : ℕ} → n ≡ bounds_no o → 0 < n → a ≡ Err (refusal n 1) → RetraceStep o a
   unfolding retrace_answer
   refused_no h l e = record { answer = e ∙ first_no_lem o (λ n. Err (refusal n 1)) (traced (first_pair o)) h l }
 
-  pub looked : bounds_no o ≡ 0 → a ≡ traced (first_pair o) → RetraceStep o a
+  pub looked : (p : Option EdgePair) → bounds_no o ≡ 0 → p ≡ first_pair o → a ≡ Ok p → RetraceStep o a
   unfolding retrace_answer
-  looked z e = let p = passed o z in record { answer = rw (p.0, p.1) e }
+  looked p z e r = let q = passed o z in record { answer = rw (q.0, q.1, ← e) (r ∙ traced_is p) }

@@ -16,12 +16,12 @@ fn rise_alike(e: Side, f: Side) -> bool
     requires fact_2 { Small f.xl f.yl f.xr f.yr }
     ensures { result ≡ rise_alike (edge_of e.xl e.yl e.xr e.yr) (edge_of f.xl f.yl f.xr f.yr) }
 {
-    let v = numbers::wide(e.xr - e.xl);
-    let w = numbers::wide(f.xr - f.xl);
-    let a = numbers::wide(e.yl);
-    let b = numbers::wide(e.yr);
-    let c = numbers::wide(f.yl);
-    let d = numbers::wide(f.yr);
+    let v = u64::from(e.xr - e.xl);
+    let w = u64::from(f.xr - f.xl);
+    let a = u64::from(e.yl);
+    let b = u64::from(e.yr);
+    let c = u64::from(f.yl);
+    let d = u64::from(f.yr);
     b * w + c * v == d * v + a * w
 }
 
@@ -32,11 +32,9 @@ fn level_at(e: Side, f: Side, x: u16) -> bool
     requires fact_3 { (e.xl ≤ x) × (x ≤ e.xr) × (f.xl ≤ x) × (x ≤ f.xr) }
     ensures { result ≡ level (edge_of e.xl e.yl e.xr e.yr) (edge_of f.xl f.yl f.xr f.yr) x }
 {
-    let v = numbers::wide(e.xr - e.xl);
-    let w = numbers::wide(f.xr - f.xl);
-    let h = checks::height_at(e, x);
-    let k = checks::height_at(f, x);
-    h * w == k * v
+    let v = u64::from(e.xr - e.xl);
+    let w = u64::from(f.xr - f.xl);
+    checks::height_at(e, x) * w == checks::height_at(f, x) * v
 }
 
 // Whether two edges, neither vertical, run along each other.
@@ -45,32 +43,18 @@ fn run_along(e: Side, f: Side) -> bool
     requires fact_2 { Small f.xl f.yl f.xr f.yr }
     ensures { result ≡ run_along (edge_of e.xl e.yl e.xr e.yr) (edge_of f.xl f.yl f.xr f.yr) }
 {
-    let a = numbers::more(e.xl, f.xl);
-    let b = numbers::less(e.xr, f.xr);
-    if a < b {
-        if rise_alike(e, f) {
-            return level_at(e, f, a);
-        }
-    }
-    false
+    let a = e.xl.max(f.xl);
+    let b = e.xr.min(f.xr);
+    a < b && rise_alike(e, f) && level_at(e, f, a)
 }
 
 // Whether two vertical edges stand along each other.
 fn stand_along(e: Side, f: Side) -> bool
     ensures { result ≡ stand_along (edge_of e.xl e.yl e.xr e.yr) (edge_of f.xl f.yl f.xr f.yr) }
 {
-    if e.xl != e.xr {
-        return false;
-    }
-    if f.xl != f.xr {
-        return false;
-    }
-    if e.xl != f.xl {
-        return false;
-    }
-    let low = numbers::more(numbers::less(e.yl, e.yr), numbers::less(f.yl, f.yr));
-    let high = numbers::less(numbers::more(e.yl, e.yr), numbers::more(f.yl, f.yr));
-    low < high
+    let low = e.yl.min(e.yr).max(f.yl.min(f.yr));
+    let high = e.yl.max(e.yr).min(f.yl.max(f.yr));
+    e.xl == e.xr && f.xl == f.xr && e.xl == f.xl && low < high
 }
 
 // Whether two edges share a stretch.
@@ -79,10 +63,7 @@ pub fn shares(e: Side, f: Side) -> bool
     requires fact_2 { Small f.xl f.yl f.xr f.yr }
     ensures { result ≡ sharesb (edge_of e.xl e.yl e.xr e.yr) (edge_of f.xl f.yl f.xr f.yr) }
 {
-    if run_along(e, f) {
-        return true;
-    }
-    stand_along(e, f)
+    run_along(e, f) || stand_along(e, f)
 }
 
 // Edge i of the outline as it is lent.
@@ -109,47 +90,29 @@ fn shared_after(o: &[u16], i: usize) -> Option<usize>
     requires fact_2 { i < sides o.now }
     ensures { After o.now i result }
 {
-    let n = o.len() / 2;
     let e = edge(o, i);
-    let mut j = i + 1;
-    while j < n {
-        let f = edge(o, j);
-        if shares(e, f) {
+    for j in i + 1..o.len() / 2 {
+        if shares(e, edge(o, j)) {
             return Some(j);
         }
-        j += 1;
     }
     None
 }
 
-fn pair(i: usize, j: usize) -> Result<Option<EdgePair>, Refusal>
-    requires { (i < 64) × (j < 64) }
-    ensures { result ≡ Ok (Some (record { first = i + 1; second = j + 1 })) }
-{
-    Ok(Some(EdgePair {
-        first: (i + 1) as u16,
-        second: (j + 1) as u16,
-    }))
-}
-
 // The first two edges that share a stretch.
-fn first_pair(o: &[u16]) -> Result<Option<EdgePair>, Refusal>
+fn first_pair(o: &[u16]) -> Option<EdgePair>
     requires { Lent o.now }
-    ensures { result ≡ traced (first_pair o.now) }
+    ensures { result ≡ first_pair o.now }
 {
-    let n = o.len() / 2;
-    let mut i = 0;
-    while i < n {
-        match shared_after(o, i) {
-            Some(j) => {
-                return pair(i, j);
-            }
-            None => {
-                i += 1;
-            }
+    for i in 0..o.len() / 2 {
+        if let Some(j) = shared_after(o, i) {
+            return Some(EdgePair {
+                first: (i + 1) as u16,
+                second: (j + 1) as u16,
+            });
         }
     }
-    Ok(None)
+    None
 }
 
 // The retrace call.
@@ -158,6 +121,6 @@ pub fn retrace(o: &[u16]) -> Result<Option<EdgePair>, Refusal>
 {
     match checks::bounds(o) {
         Err(n) => refused(n, 1),
-        Ok(b) => first_pair(o),
+        Ok(_) => Ok(first_pair(o)),
     }
 }

@@ -1,3 +1,2 @@
-pub mod Shifts
 pub mod Splice
 pub mod Few

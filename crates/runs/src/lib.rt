@@ -9,14 +9,12 @@ pub fn pass(s: &[u16], a: usize, n: usize, v: u16) -> usize
     requires { (a ≤ n) × (n ≤ length s.now) }
     ensures { Passes s.now a n v result }
 {
-    let mut i = a;
-    while i < n {
+    for i in a..n {
         if v < s[i] {
             return i;
         }
-        i += 1;
     }
-    i
+    n
 }
 
 // The first word from a on that is at least v.
@@ -32,11 +30,7 @@ fn shift_up(s: &mut [u16], a: usize, n: usize)
     requires { (a ≤ n) × (n < length s.old) }
     ensures { Up s.old s.new a n }
 {
-    let mut i = n;
-    while a < i {
-        s[i] = s[i - 1];
-        i -= 1;
-    }
+    s.copy_within(a..n, a + 1);
 }
 
 // Takes the words from a to b - 1 out.
@@ -44,13 +38,7 @@ fn shift_down(s: &mut [u16], a: usize, b: usize, n: usize)
     requires { (a ≤ b) × (b ≤ n) × (n ≤ length s.old) }
     ensures { Down s.old s.new a b n }
 {
-    let mut i = a;
-    let mut j = b;
-    while j < n {
-        s[i] = s[j];
-        i += 1;
-        j += 1;
-    }
+    s.copy_within(b..n, a);
 }
 
 // Joins the rows lo to hi - 1 to the runs base to n - 1, and answers where the runs end then.
@@ -76,10 +64,8 @@ pub fn join_from(
         highs[a] = hi;
         n + 1
     } else {
-        let l = numbers::less(lo, lows[a]);
-        let h = numbers::more(hi, highs[b - 1]);
-        lows[a] = l;
-        highs[a] = h;
+        lows[a] = lo.min(lows[a]);
+        highs[a] = hi.max(highs[b - 1]);
         shift_down(lows, a + 1, b, n);
         shift_down(highs, a + 1, b, n);
         n - b + a + 1

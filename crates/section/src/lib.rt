@@ -68,10 +68,8 @@ pub fn held(
     requires fact_5 { Stock (turned o.now f.turn) s.start s.end s.count s.cut h0.old h1.old w.old }
     ensures { HeldAt (turned o.now f.turn) a result.start result.end result.count result.cut h0.new h1.new w.new }
 {
-    if s.start <= a {
-        if a < s.end {
-            return s;
-        }
+    if s.start <= a && a < s.end {
+        return s;
     }
     let e = cuts::slab_end(o, f, a, to, s);
     next_slab(o, f, a, e, h0, h1, w)

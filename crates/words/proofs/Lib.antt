@@ -1,3 +1,3 @@
 pub mod Storing
 pub mod Copying
-pub mod Zeros
+pub mod Copied

@@ -10,21 +10,12 @@ pub fn copy_in(words: &[u16], out: &mut [u16], to: usize)
     requires { to + length words.now ≤ length out.old }
     ensures { out.new ≡ sets out.old to words.now }
 {
-    let mut i: usize = 0;
-    while i < words.len() {
-        out[to + i] = words[i];
-        i += 1;
-    }
+    out[to..to + words.len()].copy_from_slice(words);
 }
 
 // "A work buffer is zero after each call."
 pub fn clear(work: &mut [u16])
     ensures { work.new ≡ cleared work.old }
 {
-    let n = work.len();
-    let mut i = 0;
-    while i < n {
-        work[i] = 0;
-        i += 1;
-    }
+    work.fill(0);
 }

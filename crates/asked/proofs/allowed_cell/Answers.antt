@@ -1,19 +1,13 @@
--- `asked::allowed_cell` meets its contract: question 10 says that an allowed turn keeps the order.
+-- `allowed_cell` meets its contract: question 10 says that an allowed turn keeps the order.
 -- Assumes nothing.
 use Rattle.asked.proofs.AllowedTurns.{allowed_has, barred_has, allowed_keeps}
 use Rattle.asked.proofs.allowed_cell.Goals as goal
 
-pub has_cell-requires : goal.has_cell-requires
-has_cell-requires c = let p = c.requires in
-    record {
-      fact_1 = p.fact_1;
-      fact_2 = p.fact_2;
-      fact_3 = p.fact_3;
-      fact_4 = allowed_keeps _ _ _ p.fact_4 p.fact_3 c.allows.ensures c.if-allows.true;
-    }
+pub has_cell-requires-clause-fact_4 : goal.has_cell-requires-clause-fact_4
+has_cell-requires-clause-fact_4 c = let p = c.requires in allowed_keeps _ _ _ p.fact_4 p.fact_3 c.allows.ensures c.if-allows.true
 
 pub returns-then-allows : goal.returns-then-allows
 returns-then-allows c = allowed_has _ _ _ c.requires.fact_3 c.allows.ensures c.if-allows.true c.has_cell.ensures
 
-pub returns : goal.returns
-returns c = barred_has _ _ _ c.requires.fact_3 c.allows.ensures c.if-allows.false
+pub returns-else-allows : goal.returns-else-allows
+returns-else-allows c = barred_has _ _ _ c.requires.fact_3 c.allows.ensures c.if-allows.false

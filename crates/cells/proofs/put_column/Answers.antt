@@ -1,4 +1,4 @@
--- `cover::put_column` stores the words of a column's runs: three stores are the next run's words, and when no run is left, nothing is
+-- `put_column` stores the words of a column's runs: three stores are the next run's words, and when no run is left, nothing is
 -- left to store.
 -- Assumes nothing.
 use lib.ListN.{length-set}

@@ -1,25 +1,17 @@
--- `checks::all_keep_order` meets its contract. The loop's invariant: each turn below t passes.
--- Assumes nothing.
-use mathlib.Core.Path.{sym, ◌∙◌}
-use native.Mathlib.Omega.{arith}
-use Rattle.checks.proofs.Turned.{no_turn_yet, turns_more, turns_end, turn_fails}
+-- `all_keep_order` meets its contract: each turn below 4 is asked. Assumes nothing.
+use mathlib.Core.Path.{◌≡◌, refl}
+use mathlib.Core.Bool.{true, false}
+use Prim.Native.Nat.{ℕ}
+use borrow.Author.Tests.{tests}
+use borrow.Author.Rules.{rules}
+use Rattle.std.proofs.lemmas.Iterator.{cases_from_all, YieldsList-from_range}
+use Rattle.checks.specs.Order.{turnb}
+use Rattle.checks.proofs.Turned.{turns_asked}
 use Rattle.checks.proofs.all_keep_order.Goals as goal
 
-pub loop-t-init : goal.loop-t-init
-loop-t-init c = (omega arith, no_turn_yet _ _)
-
-pub overflow_add-t : goal.overflow_add-t
-overflow_add-t c = omega arith
-
-pub loop-t-smaller : goal.loop-t-smaller
-loop-t-smaller c = omega arith
-
-pub loop-t-preserved : goal.loop-t-preserved
-loop-t-preserved c =
-    (omega arith, turns_more _ _ _ c.loop-t.invariant.1 (sym c.turn_keeps.ensures ∙ c.if-turn_keeps.true))
-
-pub returns-else-turn_keeps : goal.returns-else-turn_keeps
-returns-else-turn_keeps c = turn_fails _ _ _ c.loop-t-test.true (sym c.turn_keeps.ensures ∙ c.if-turn_keeps.false)
-
 pub returns : goal.returns
-returns c = turns_end _ _ c.loop-t.invariant.1 (omega arith)
+returns c =
+    let f = λ (t : ℕ). turnb c.args.o.now c.args.mask t in
+    turns_asked _ _ _
+    (cases_from_all _ _ _ (λ (t : ℕ). f t ≡ true) (λ (t : ℕ). f t ≡ false) c.all.ensures.ran (YieldsList-from_range 0 4 4 refl refl)
+    (λ x q k. search (rules, tests)) (λ x q k. search (rules, tests)))

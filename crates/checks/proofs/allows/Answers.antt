@@ -1,17 +1,11 @@
--- `checks::allows` meets its contract: 2 ^ t is 1, 2, 4 or 8.
--- Assumes nothing.
-use native.Mathlib.Omega.{arith}
-use Rattle.checks.proofs.Turned.{bit_of, first_bit}
+-- `allows` meets its contract: bit t of the mask. Assumes nothing.
+use mathlib.Core.Path.{ap}
+use Prim.Native.Nat.{ℕ}
+use lib.Dec.{eqb}
+use Rattle.std.proofs.lemmas.Nat.{and_mask}
+use Rattle.defs.specs.Computing.Cells.{allowedb}
 use Rattle.checks.proofs.allows.Goals as goal
 
-pub returns-then-t-eq0 : goal.returns-then-t-eq0
-returns-then-t-eq0 c = first_bit _ (omega arith)
-
-pub returns-then-t-lt2 : goal.returns-then-t-lt2
-returns-then-t-lt2 c = bit_of _ 1 (omega arith)
-
-pub returns-then-t-eq2 : goal.returns-then-t-eq2
-returns-then-t-eq2 c = bit_of _ 2 (omega arith)
-
 pub returns : goal.returns
-returns c = bit_of _ 3 (omega arith)
+unfolding allowedb
+returns c = ap (λ (b : ℕ). eqb b 1) (and_mask _ 1)

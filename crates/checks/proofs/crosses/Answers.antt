@@ -1,3 +1,4 @@
+-- `crosses` meets its contract: one line passes the other, or the other the one. Assumes nothing.
 use Rattle.slabs.specs.Change.{crossesb}
 use Rattle.checks.proofs.crosses.Goals as goal
 
@@ -5,6 +6,6 @@ pub returns-then-passes : goal.returns-then-passes
 unfolding crossesb
 returns-then-passes c = rw (← c.passes.ensures, c.if-passes.true)
 
-pub returns : goal.returns
+pub returns-else-passes : goal.returns-else-passes
 unfolding crossesb
-returns c = rw (← c.passes.ensures, c.if-passes.false) c.passes-2.ensures
+returns-else-passes c = rw (← c.passes.ensures, c.if-passes.false) c.passes-else-passes.ensures

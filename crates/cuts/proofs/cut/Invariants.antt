@@ -1,14 +1,8 @@
 -- `cut` meets its contract: it ends a slab at the next vertex, or at `to`.
 -- The loop's invariant is the contract for the vertices looked at. Assumes nothing.
-use Prim.Native.Nat.{◌≤◌, ◌-◌}
-use mathlib.Core.Path.{◌≡◌}
-use Rattle.defs.specs.Meaning.Outline.{sides}
 use Rattle.defs.specs.Meaning.Turn.{turned}
 use Rattle.cuts.specs.Cut.{CutAt}
 use Rattle.cuts.proofs.cut.Given as goal
 
 abbrev pub invariant-loop-i : goal.invariant-loop-i
-invariant-loop-i l = (l.i ≤ l.n) × (l.n ≡ sides l.o) × CutAt (turned l.o l.f.turn) l.a l.i l.r
-
-abbrev pub decreases-loop-i : goal.decreases-loop-i
-decreases-loop-i l = l.n - l.i
+invariant-loop-i l = CutAt (turned l.o l.f.turn) l.a l.i l.r

@@ -7,7 +7,13 @@ use Rattle.gaps.specs.Gaps.{Paired, Adds}
 use Rattle.gaps.proofs.gaps.Given as goal
 
 abbrev pub invariant-loop-low : goal.invariant-loop-low
-invariant-loop-low l = (l.low ≤ l.m) × (l.low % 2 ≡ 0) × (length l.lows ≡ length l.initial.lows) × (length l.highs ≡ length l.initial.highs) × Adds (Paired l.h0 l.h1 l.w l.low) l.initial.lows l.initial.highs l.lows l.highs l.n l.k
+invariant-loop-low l = record {
+  most : l.low ≤ l.m;
+  even : l.low % 2 ≡ 0;
+  long : length l.lows ≡ length l.initial.lows;
+  high_long : length l.highs ≡ length l.initial.highs;
+  adds : Adds (Paired l.h0 l.h1 l.w l.low) l.initial.lows l.initial.highs l.lows l.highs l.n l.k;
+}
 
 abbrev pub decreases-loop-low : goal.decreases-loop-low
 decreases-loop-low l = l.m - l.low

@@ -3,4 +3,4 @@ use Rattle.outline.proofs.Vertices.{reads_y}
 use Rattle.outline.proofs.y_at.Goals as goal
 
 pub returns : goal.returns
-returns c = reads_y c.requires.fact_1 _ c.apart.ensures
+returns c = reads_y c.requires.fact_1 _ c.abs_diff.ensures

@@ -8,38 +8,18 @@ pub returns-then-g-eq0 : goal.returns-then-g-eq0
 returns-then-g-eq0 c = raised_by_none c.if-g-eq0.true c.requires.fact_1
 
 pub loop-i-init : goal.loop-i-init
-loop-i-init c = (raising_start _ _ _, omega arith)
-
-pub bounds-lows-i : goal.bounds-lows-i
-bounds-lows-i c = omega (arith, c.loop-i.invariant.0.long, c.requires.fact_2)
-
-pub bounds-highs-i : goal.bounds-highs-i
-bounds-highs-i c = omega (arith, c.loop-i.invariant.0.high_long, c.requires.fact_2)
+loop-i-init c = raising_start _ _ _
 
 pub overflow_add-hi : goal.overflow_add-hi
-overflow_add-hi c = omega (arith, c.loop-i.invariant.0.highs_kept c.loop-i.i (omega arith), c.requires.fact_3 c.loop-i.i (omega arith))
-
-pub put_run-m-requires : goal.put_run-m-requires
-put_run-m-requires c = omega (arith, c.loop-i.invariant.0.few, c.loop-i.invariant.0.long, c.loop-i.invariant.0.high_long, c.requires.fact_2)
-
-pub loop-i-smaller : goal.loop-i-smaller
-loop-i-smaller c = omega arith
+overflow_add-hi c = omega (arith, c.loop-i.invariant.highs_kept c.loop-i.i (omega arith), c.requires.fact_3 c.loop-i.i (omega arith))
 
 pub loop-i-preserved : goal.loop-i-preserved
 loop-i-preserved c =
-    let r = c.loop-i.invariant.0 in
+    let r = c.loop-i.invariant in
     let i = c.loop-i.i in
-    let pre = c.requires in (
-      raising_next pre.fact_1 (omega arith) pre.fact_2.0 pre.fact_2.1 r (r.lows_kept i (omega arith))
-          (omega (arith, r.highs_kept i (omega arith))) c.put_run-m.ensures,
-      omega arith,
-    )
-
-pub shape_of-lows : goal.shape_of-lows
-shape_of-lows c = omega (arith, c.loop-i.invariant.0.long)
-
-pub shape_of-highs : goal.shape_of-highs
-shape_of-highs c = omega (arith, c.loop-i.invariant.0.high_long)
+    let pre = c.requires in
+    raising_next pre.fact_1 (omega arith) pre.fact_2.0 pre.fact_2.1 r (r.lows_kept i (omega arith))
+    (omega (arith, r.highs_kept i (omega arith))) c.put_run-m.ensures
 
 pub returns : goal.returns
-returns c = raising_end c.loop-i.invariant.0 (omega (arith, c.loop-i.invariant.1))
+returns c = raising_end c.loop-i.invariant (omega arith)

