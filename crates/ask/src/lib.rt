@@ -7,7 +7,7 @@ ghost use Rattle.defs.specs.Computing.Calls.{place_answer, place_tries, AskStep}
 use defs::PlacingTries;
 use wanted::Wanted;
 
-// Lends the next table, into which the piece is entered for question 14; it is entered nowhere else. Leaves words in the work buffer.
+// Lends the next table, as wanted::put does (a closure that is lent it would need a contract as long as both bodies), into which the piece is entered for question 14; it is entered nowhere else. Leaves words in the work buffer.
 fn look(strip: &[u16], o: &[u16], mask: u16, work: &mut [u16]) -> PlacingTries
     ensures fact_1 { result.placing ≡ place_answer strip.now o.now mask (length work.old) }
     ensures fact_2 { result.tries ≡ place_tries strip.now o.now mask (length work.old) }

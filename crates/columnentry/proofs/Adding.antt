@@ -80,15 +80,3 @@ added_more {l} {h} {l₁} {h₁} {l₂} {h₂} {r} {b} {t} {u} {v} {W} {y} {a} {
         j.added x (omega (arith, p.low, ap (run_low r) e)) (omega (arith, p.high, p.top, ap (run_high r) e))
 
 -- the runs of column k end where the next one is in a later column: the piece's runs stand by column
-pub split_next : {r : List ℕ} {g : Entry} {k e : ℕ} → Fits r g → e ≤ g.runs → ((m : ℕ) → m < e → g.column + run_column r m ≤ k) →
-    (e < g.runs → k < g.column + run_column r e) → Split r g (k + 1) e
-split_next {r} {g} {k} {e} f p passed stop =
-    record {
-      among = p;
-      before = λ m h. omega (arith, passed m h);
-      others = λ m h q. others m h q (dec_lt e m);
-    }
-  where
-    others : (m : ℕ) → e ≤ m → m < g.runs → Dec (e < m) → k + 1 ≤ g.column + run_column r m
-    others m h q (yes u) = omega (arith, stop (omega arith), f.piece.order e m u q)
-    others m h q (no u) = let d : m ≡ e = omega arith in rw d (omega (arith, stop (omega arith)))

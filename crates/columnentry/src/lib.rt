@@ -6,7 +6,7 @@ ghost use Rattle.std.specs.Prelude.{◌+◌, ◌≤◌, ◌<◌, length};
 ghost use Rattle.columnentry.specs.Columns.{Fits, Copied, Split, Room, Added, Next, EntersColumn};
 
 // The columns and the width of the table, and the most runs that it may have; how many runs the piece has, and where it is placed.
-#[derive(Clone, Copy)]
+#[derive(Clone, Copy, Debug, PartialEq, Eq)]
 pub struct Entry {
     pub columns: usize,
     pub width: u16,
@@ -17,7 +17,7 @@ pub struct Entry {
 }
 
 // How many runs the new table has so far, and how many of the piece's runs are entered.
-#[derive(Clone, Copy)]
+#[derive(Clone, Copy, Debug, PartialEq, Eq)]
 pub struct Built {
     pub runs: usize,
     pub used: usize,
@@ -28,31 +28,21 @@ fn copy_words(from: &[u16], a: usize, e: usize, to: &mut [u16], t: usize)
     requires { (a ≤ e) × (e ≤ length from.now) × (t + e ≤ length to.old + a) }
     ensures { Copied from.now to.old to.new a e t }
 {
-    let mut i = a;
-    let mut j = t;
-    while i < e {
-        to[j] = from[i];
-        i += 1;
-        j += 1;
-    }
+    to[t..t + (e - a)].copy_from_slice(&from[a..e]);
 }
 
 // The end of the piece's runs in column k, which begin with run a.
 fn column_end(runs: &[u16], g: Entry, k: usize, a: usize) -> usize
-    requires fact_1 { Fits runs.now g }
-    requires fact_2 { Split runs.now g k a }
+    requires fits { Fits runs.now g }
+    requires from { Split runs.now g k a }
     ensures { Split runs.now g (k + 1) result }
 {
-    let p = g.runs;
-    let c = g.column;
-    let mut e = a;
-    while e < p {
-        if k < c + runs[3 * e] as usize {
+    for e in a..g.runs {
+        if k < g.column + runs[3 * e] as usize {
             return e;
         }
-        e += 1;
     }
-    e
+    g.runs
 }
 
 // Joins the piece's runs a to e - 1, as far as they lie below the table's width, to the runs base to t - 1, and answers where the runs end
@@ -67,26 +57,24 @@ fn add_runs(
     base: usize,
     t: usize,
 ) -> usize
-    requires fact_1 { Fits runs.now g }
-    requires fact_2 { Room lows.old highs.old base t }
-    requires fact_3 { (a ≤ e) × (e ≤ g.runs) }
+    requires fits { Fits runs.now g }
+    requires room { Room lows.old highs.old base t }
+    requires some { (a ≤ e) × (e ≤ g.runs) }
     ensures { Added lows.old highs.old lows.new highs.new runs.now
         base t result g.width g.height a e }
 {
     let y = g.height;
     let top = g.width;
-    let mut i = a;
     let mut u = t;
-    while i < e {
+    for i in a..e {
         u = runs::join_from(
             lows,
             highs,
             base,
             u,
             y + runs[3 * i + 1],
-            numbers::less(y + runs[3 * i + 2], top),
+            top.min(y + runs[3 * i + 2]),
         );
-        i += 1;
     }
     u
 }
@@ -103,8 +91,8 @@ pub fn enter_column(
     lows2: &mut [u16],
     highs2: &mut [u16],
 ) -> Built
-    requires fact_1 { Next first.now lows.now highs.now runs.now g k b }
-    requires fact_2 { (24001 ≤ length lows2.old) × (24001 ≤ length highs2.old) }
+    requires next { Next first.now lows.now highs.now runs.now g k b }
+    requires room { (24001 ≤ length lows2.old) × (24001 ≤ length highs2.old) }
     ensures { EntersColumn first.now lows.now highs.now runs.now
         lows2.old highs2.old lows2.new highs2.new g k b result }
 {

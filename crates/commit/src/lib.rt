@@ -12,10 +12,7 @@ use wanted::Wanted;
 pub fn committed(a: Result<Position, Refusal>) -> Result<(), Refusal>
     ensures { result ≡ as_commit a }
 {
-    match a {
-        Ok(p) => Ok(()),
-        Err(r) => Err(r),
-    }
+    a.map(|_| ())
 }
 
 // The commit call.
@@ -24,6 +21,5 @@ pub fn commit(strip: &mut [u16], o: &[u16], p: Position, work: &mut [u16]) -> Re
 {
     let x = wanted::put(strip, o, Wanted::At(p), work);
     words::clear(work);
-    let a = x.placing;
-    committed(a)
+    committed(x.placing)
 }

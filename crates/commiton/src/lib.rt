@@ -42,13 +42,17 @@ fn commit_runs(
         return refused(12, 1);
     }
     let s = Search {
+        first,
+        lows,
+        highs,
+        runs: work,
         columns: g.columns as usize,
         width: g.width,
-        runs: k,
+        count: k,
         wide: ranks::columns_for(e.w, g.resolution),
         tall: e.h,
     };
-    if !spot::fits_at(first, lows, highs, work, s, p.column as usize, p.height) {
+    if !spot::fits_at(s, p.column as usize, p.height) {
         return refused(18, 0);
     }
     let d = Standing {

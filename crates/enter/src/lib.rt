@@ -21,23 +21,18 @@ pub fn enter(
     lows2: &mut [u16],
     highs2: &mut [u16],
 ) -> Option<usize>
-    requires fact_1 { Old first.now lows.now highs.now g }
-    requires fact_2 { Fits runs.now g }
-    requires fact_3 { (4097 ≤ length first2.old) × (24001 ≤ length lows2.old) × (24001 ≤ length highs2.old) }
+    requires old { Old first.now lows.now highs.now g }
+    requires fits { Fits runs.now g }
+    requires room { (4097 ≤ length first2.old) × (24001 ≤ length lows2.old) × (24001 ≤ length highs2.old) }
     ensures { Enters first.now lows.now highs.now runs.now
         first2.new lows2.new highs2.new g result }
 {
-    let n = g.columns;
-    let most = g.most;
     let mut b = Built { runs: 0, used: 0 };
-    let mut k = 0;
     first2[0] = 0;
-    while k < n {
+    for k in 0..g.columns {
         b = columnentry::enter_column(first, lows, highs, runs, g, k, b, lows2, highs2);
-        let t = b.runs;
-        k += 1;
-        first2[k] = t as u16;
-        if most < t {
+        first2[k + 1] = b.runs as u16;
+        if g.most < b.runs {
             return None;
         }
     }

@@ -28,10 +28,7 @@ pub fn untried(number: u16, ordinal: u16) -> PlacingTries
     ensures { result ≡ record { placing = Err (record { number = number; ordinal = ordinal }); tries = 0 } }
 {
     PlacingTries {
-        placing: Err(Refusal {
-            number: number,
-            ordinal: ordinal,
-        }),
+        placing: refused(number, ordinal),
         tries: 0,
     }
 }
@@ -92,7 +89,7 @@ pub fn enter_at(
         height: p.height,
     };
     match enter::enter(first, lows, highs, work, at, first2, lows2, highs2) {
-        Some(t) => Ok(p),
+        Some(_) => Ok(p),
         None => refused(14, 1),
     }
 }
@@ -130,12 +127,10 @@ pub fn place_asked(
     if room < s.most {
         return untried(12, 1);
     }
-    let c = s.best;
-    let d = s.stands;
-    match c {
+    match s.best {
         Some(r) => PlacingTries {
             placing: enter_at(
-                g, gap, q, first, lows, highs, o, b, r.at, d, work, first2, lows2, highs2,
+                g, gap, q, first, lows, highs, o, b, r.at, s.stands, work, first2, lows2, highs2,
             ),
             tries: s.tries,
         },

@@ -10,6 +10,7 @@ ghost use Rattle.wanted.specs.Answers.{OnTable, Looked, Put};
 use defs::{Figures, PlacingTries, Position};
 use search::Way;
 
+// The best position in the turns of a mask, or a given one.
 #[derive(Clone, Copy)]
 pub enum Wanted {
     Best(u16),
@@ -37,19 +38,7 @@ fn on_table(
 {
     match wanted {
         Wanted::Best(mask) => placeon::place_on(
-            g,
-            gap,
-            q,
-            first,
-            lows,
-            highs,
-            o,
-            mask,
-            Way::Walk,
-            work,
-            first2,
-            lows2,
-            highs2,
+            g, gap, q, first, lows, highs, o, mask, Way::Walk, work, first2, lows2, highs2,
         ),
         Wanted::At(p) => PlacingTries {
             placing: commiton::commit_on(
@@ -84,19 +73,9 @@ fn look_decoded(
         columns: strip[limits::COLUMNS],
     };
     let q = limits::records_of(g.columns, strip.len());
+    let gap = strip[limits::GAP];
     on_table(
-        g,
-        strip[limits::GAP],
-        q,
-        first,
-        lows,
-        highs,
-        o,
-        wanted,
-        work,
-        first2,
-        lows2,
-        highs2,
+        g, gap, q, first, lows, highs, o, wanted, work, first2, lows2, highs2,
     )
 }
 
@@ -138,9 +117,8 @@ fn put_with(
     ensures { Put strip.old o.now wanted (length work.old) result.placing result.tries strip.new }
 {
     let x = look(strip, o, wanted, work, first2, lows2, highs2);
-    let a = x.placing;
-    match a {
-        Ok(p) => {
+    match x.placing {
+        Ok(_) => {
             let g = Figures {
                 width: strip[limits::WIDTH],
                 resolution: strip[limits::RESOLUTION],
@@ -151,7 +129,7 @@ fn put_with(
             encode::encode(strip, g, gap, first2, lows2, highs2, n);
             x
         }
-        Err(r) => x,
+        Err(_) => x,
     }
 }
 

@@ -42,16 +42,16 @@ returns-then-work-k c =
 pub columns_for-requires : goal.columns_for-requires
 columns_for-requires c = c.requires.fact_1.limits.resolution.at_least
 
-pub fits_at-requires : goal.fits_at-requires
-fits_at-requires c = let pre = c.requires in
+pub invariant_of-s : goal.invariant_of-s
+invariant_of-s c = let pre = c.requires in
     let bounds = pre.fact_3 in
     let put = c.put_turn-k.ensures in
     let room = c.if-work-k.false in
     let extent = c.extent_of-e.ensures in
     let columns = c.columns_for.ensures in record {
-      fact_1 = frame c.args.p
+      framed = frame c.args.p
           pre.fact_1.gap pre.fact_1.table pre.fact_2 bounds put room extent.0 columns extent.1;
-      fact_2 = pre.fact_1.limits.width.at_most;
+      limits = (pre.fact_1.limits.width.at_most, pre.fact_1.limits.columns.at_most);
     }
 
 pub returns-then-not-fits_at : goal.returns-then-not-fits_at

@@ -16,9 +16,9 @@ pub enter-requires : goal.enter-requires
 enter-requires c = let tabled = c.requires.fact_1 in
     let at = c.requires.fact_2 in
     record {
-      fact_1 = old c.args.p tabled at c.stand_runs-k.ensures;
-      fact_2 = fits c.args.p tabled at c.stand_runs-k.ensures;
-      fact_3 = (tabled.firsts, tabled.lows, tabled.highs);
+      old = old c.args.p tabled at c.stand_runs-k.ensures;
+      fits = fits c.args.p tabled at c.stand_runs-k.ensures;
+      room = (tabled.firsts, tabled.lows, tabled.highs);
     }
 
 pub returns-in-Some : goal.returns-in-Some
