@@ -8,6 +8,7 @@ ghost use Rattle.defs.specs.Computing.Sheets.{piece_of, piece_records, sheet_pie
 ghost use Rattle.words.specs.Put.{Put};
 ghost use Rattle.cutlist.specs.Pieces.{PieceAt, VertexEnds, AllEnd, PieceFits, ChainEnds, PiecesRoom, PieceCounted};
 
+use reader::Reader;
 
 // The number of words of the piece of piece record `at`.
 fn piece_words(sheet: &[u8], v: usize, at: usize) -> usize
@@ -15,7 +16,7 @@ fn piece_words(sheet: &[u8], v: usize, at: usize) -> usize
     requires fact_2 { VertexEnds sheet.now at }
     ensures { PieceCounted sheet.now at result }
 {
-    let piece = reader::visit(sheet, v + at);
+    let piece = Reader::start(sheet, v + at).present();
     match records::follow(sheet, 0, v, piece.first, numbers::MOST_VERTICES) {
         Some(n) => 2 + 2 * n,
         None => 0,
@@ -33,7 +34,7 @@ pub fn list_words(sheet: &[u8], v: usize) -> usize
     let mut total: usize = 1;
     while 0 < at {
         total += piece_words(sheet, v, at);
-        at = reader::visit(sheet, v + at).next as usize;
+        at = Reader::start(sheet, v + at).present().next as usize;
         left -= 1;
     }
     total
@@ -44,7 +45,7 @@ fn put_piece(sheet: &[u8], v: usize, at: usize, out: &mut [u16], to: usize) -> u
     requires { PieceFits sheet.now v at out.old to }
     ensures { Put out.old out.new to (piece_words (piece_of sheet.now at)) result }
 {
-    let piece = reader::visit(sheet, v + at);
+    let piece = Reader::start(sheet, v + at).present();
     let mut words = [0u16; numbers::MOST_WORDS];
     match records::gather(sheet, v, piece.first, &mut words) {
         Some(n) => {
@@ -68,7 +69,7 @@ fn put_pieces(sheet: &[u8], v: usize, out: &mut [u16])
     let mut o: usize = 1;
     while 0 < at {
         o = put_piece(sheet, v, at, out, o);
-        at = reader::visit(sheet, v + at).next as usize;
+        at = Reader::start(sheet, v + at).present().next as usize;
         left -= 1;
     }
 }

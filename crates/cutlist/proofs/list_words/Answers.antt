@@ -1,8 +1,7 @@
 -- The words counted so far and those of the pieces still to come are all. Assumes nothing.
-use mathlib.Core.Path.{ap}
 use native.Mathlib.Omega.{arith}
 use borrow.Author.Rules.{rules}
-use Rattle.reader.specs.declared.Numbers.{Numbers}
+use Rattle.reader.proofs.Told.{reached, next_read}
 use Rattle.cutlist.proofs.Along.{along_here, along_left, along_at}
 use Rattle.cutlist.proofs.Lists.{sum_start, sum_ends, sum_next, sum_end}
 use Rattle.cutlist.proofs.list_words.Goals as goal
@@ -22,8 +21,8 @@ overflow_add-total c = omega (arith, c.loop-at.invariant.0.few, c.piece_words-to
 pub overflow_add-v : goal.overflow_add-v
 overflow_add-v c = omega (arith, (along_here c.loop-at.invariant.0.along (omega arith)).in_sheet)
 
-pub visit-at-requires : goal.visit-at-requires
-visit-at-requires c = (along_here c.loop-at.invariant.0.along (omega arith)).in_sheet
+pub present-at-requires : goal.present-at-requires
+present-at-requires c = reached c.start.ensures (along_here c.loop-at.invariant.0.along (omega arith)).in_sheet
 
 pub overflow_sub-left : goal.overflow_sub-left
 overflow_sub-left c = omega (arith, along_left c.loop-at.invariant.0.along (omega arith))
@@ -34,7 +33,7 @@ loop-at-smaller c = omega (arith, along_left c.loop-at.invariant.0.along (omega 
 pub loop-at-preserved : goal.loop-at-preserved
 loop-at-preserved c = (
   sum_next c.loop-at.invariant.0 (omega arith) c.piece_words-total.ensures
-      (along_at c.loop-at.invariant.0.along (omega arith) (ap (λ (n : Numbers). n.next) c.visit-at.ensures)),
+      (along_at c.loop-at.invariant.0.along (omega arith) (next_read c.start.ensures c.present-at.ensures)),
   search rules,
 )
 

@@ -3,7 +3,7 @@ use mathlib.Core.Path.{sym, ap, ◌∙◌}
 use native.Mathlib.Omega.{arith}
 use lib.ListN.{length, length-set}
 use lib.Seq.{length-take-le, length-sets}
-use Rattle.reader.specs.declared.Numbers.{Numbers}
+use Rattle.reader.proofs.Told.{first_read, second_read}
 use Rattle.records.proofs.Copies.{gathered_long}
 use Rattle.cutlist.proofs.Words.{piece_put, piece_room, copy_room, not_ill}
 use Rattle.cutlist.proofs.put_piece.Goals as goal
@@ -18,7 +18,7 @@ pub bounds-out-to-in-Some : goal.bounds-out-to-in-Some
 bounds-out-to-in-Some c =
     simp length-set (omega (
       arith,
-      piece_room _ _ c.requires.here (ap (λ (n : Numbers). n.first) c.visit-piece.ensures)
+      piece_room _ _ c.requires.here (first_read c.start.ensures c.present-piece.ensures)
           (rw c.in-Some.is at c.gather.ensures) (omega arith) c.requires,
     ))
 
@@ -30,14 +30,14 @@ slice_bounds-copy_in-end c = let g = rw c.in-Some.is at c.gather.ensures in sym 
 
 pub copy_in-requires : goal.copy_in-requires
 copy_in-requires c =
-    simp length-set (copy_room _ _ c.requires.here (ap (λ (n : Numbers). n.first) c.visit-piece.ensures)
+    simp length-set (copy_room _ _ c.requires.here (first_read c.start.ensures c.present-piece.ensures)
     (rw c.in-Some.is at c.gather.ensures) (omega arith) c.requires)
 
 pub overflow_add-result-in-Some : goal.overflow_add-result-in-Some
 overflow_add-result-in-Some c =
     omega (
       arith,
-      piece_room _ _ c.requires.here (ap (λ (n : Numbers). n.first) c.visit-piece.ensures)
+      piece_room _ _ c.requires.here (first_read c.start.ensures c.present-piece.ensures)
           (rw c.in-Some.is at c.gather.ensures) (omega arith) c.requires,
     )
 
@@ -46,10 +46,10 @@ shape_of-out c = ap length c.copy_in.ensures ∙ simp (length-sets, length-set)
 
 pub returns-in-Some : goal.returns-in-Some
 returns-in-Some c =
-    piece_put _ _ c.requires.here (ap (λ (n : Numbers). n.first) c.visit-piece.ensures) (rw c.in-Some.is at c.gather.ensures)
-    (omega arith) _ _ _ _ (ap (λ (n : Numbers). n.second) c.visit-piece.ensures) c.copy_in.ensures
+    piece_put _ _ c.requires.here (first_read c.start.ensures c.present-piece.ensures) (rw c.in-Some.is at c.gather.ensures)
+    (omega arith) _ _ _ _ (second_read c.start.ensures c.present-piece.ensures) c.copy_in.ensures
 
 pub returns-in-None : goal.returns-in-None
 returns-in-None c =
-    absurd (not_ill _ _ c.requires.here (ap (λ (n : Numbers). n.first) c.visit-piece.ensures) c.requires.whole
+    absurd (not_ill _ _ c.requires.here (first_read c.start.ensures c.present-piece.ensures) c.requires.whole
     (rw c.in-None.is at c.gather.ensures))

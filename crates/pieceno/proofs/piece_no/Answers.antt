@@ -1,8 +1,8 @@
 -- Questions 7 to 11 of a piece: 7 by the walk or by the outline, the others by the outline. Assumes nothing.
-use mathlib.Core.Path.{sym, ap}
+use mathlib.Core.Path.{sym}
 use native.Mathlib.Omega.{arith}
 use lib.Seq.{length-take-le}
-use Rattle.reader.specs.declared.Numbers.{Numbers}
+use Rattle.reader.proofs.Told.{first_read, second_read}
 use Rattle.records.proofs.Copies.{gathered_long}
 use Rattle.cutlist.proofs.Words.{no_7, no_of}
 use Rattle.pieceno.proofs.piece_no.Goals as goal
@@ -20,9 +20,9 @@ slice_bounds-outline_no-end c =
 
 pub returns-in-Some : goal.returns-in-Some
 returns-in-Some c =
-    no_of _ _ c.requires.fact_1 (ap (λ (n : Numbers). n.first) c.visit-piece.ensures) (rw c.in-Some.is at c.gather.ensures)
-    (omega arith) (ap (λ (n : Numbers). n.second) c.visit-piece.ensures) c.requires.fact_2 c.nine.ensures c.outline_no.ensures
+    no_of _ _ c.requires.fact_1 (first_read c.start.ensures c.present-piece.ensures) (rw c.in-Some.is at c.gather.ensures)
+    (omega arith) (second_read c.start.ensures c.present-piece.ensures) c.requires.fact_2 c.nine.ensures c.outline_no.ensures
 
 pub returns-in-None : goal.returns-in-None
 returns-in-None c =
-    no_7 _ _ c.requires.fact_1 (ap (λ (n : Numbers). n.first) c.visit-piece.ensures) (rw c.in-None.is at c.gather.ensures)
+    no_7 _ _ c.requires.fact_1 (first_read c.start.ensures c.present-piece.ensures) (rw c.in-None.is at c.gather.ensures)
