@@ -6,9 +6,9 @@ ghost use Rattle.defs.specs.Meaning.Sheet.{sheet_r};
 ghost use Rattle.cutlist.specs.Pieces.{PieceAt, ChainEnds};
 ghost use Rattle.pieceno.specs.Refused.{PieceAsked, Asked};
 
-use defs::Refusal;
+use cutlist::PieceRecords;
+use defs::{Refusal, refused};
 use reader::Reader;
-
 
 // Questions 7 to 11 of the piece of piece record `at`: the first that gets "no". The outline is lent from a local.
 fn ask_piece(sheet: &[u8], v: usize, at: usize) -> Result<(), u16>
@@ -31,14 +31,12 @@ pub fn first_no(sheet: &[u8], v: usize) -> Result<(), Refusal>
     requires fact_2 { 1 ≤ sheet_r sheet.now }
     ensures { Asked sheet.now result }
 {
-    let mut at = fields::number(sheet, fields::FIRST_PIECE) as usize;
-    let mut left = records::MOST_PIECES;
-    let mut k: u16 = 1;
-    while 0 < at {
-        ask_piece(sheet, v, at).map_err(|number| Refusal { number, ordinal: k })?;
-        at = Reader::start(sheet, v + at).present().next as usize;
-        left -= 1;
-        k += 1;
+    let mut ordinal = 1;
+    for at in PieceRecords::of(sheet, v) {
+        if let Err(number) = ask_piece(sheet, v, at) {
+            return refused(number, ordinal);
+        }
+        ordinal += 1;
     }
     Ok(())
 }
