@@ -1,7 +1,7 @@
 -- What the answers to questions 7 to 11 mean. A cell is covered at one resolution exactly when one is at each other, so an answer
 -- holds for every resolution.
 -- Assumes nothing.
-use Rattle.std.specs.Prelude.{◌≡◌, Bool, List, ℕ, ◌≤◌, ◌<◌}
+use Rattle.std.specs.Prelude.{◌≡◌, Bool, List, ℕ, ◌≤◌, ◌<◌, Result, Ok, Err}
 use Rattle.defs.specs.Meaning.Turn.{Allows}
 use Rattle.defs.specs.Computing.Test.{ask}
 use Rattle.defs.specs.Computing.Cells.{piece_runs, count_runs, ordersb}
@@ -28,3 +28,8 @@ order_no o ninth mask =
 -- the first of 7 to 11 that gets "no", else 0
 pub record FirstNo (o : List ℕ) (ninth : Bool) (mask r : ℕ) : Type 0 where
   pub every : (R : ℕ) → 1 ≤ R → r ≡ outline_no o ninth mask R
+
+-- an answer that tells it: its number, or that there is none
+abbrev pub FirstOf : List ℕ → Bool → ℕ → Result Unit ℕ → Type 0
+FirstOf o ninth mask (Ok tt) = FirstNo o ninth mask 0
+FirstOf o ninth mask (Err n) = FirstNo o ninth mask n × (0 < n)

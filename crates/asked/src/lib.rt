@@ -5,7 +5,7 @@ ghost use Rattle.std.specs.Prelude.{true, ◌≤◌, ◌<◌};
 ghost use Rattle.defs.specs.Meaning.Question.{Question10};
 ghost use Rattle.outline.specs.Vertex.{Lent, BoundsOf};
 ghost use Rattle.checks.specs.Says.{Says};
-ghost use Rattle.asked.specs.Answers.{AllowedCell, SomeCell, order_no, FirstNo};
+ghost use Rattle.asked.specs.Answers.{AllowedCell, SomeCell, order_no, FirstOf};
 
 use outline::Bounds;
 
@@ -44,12 +44,14 @@ pub fn order(o: &[u16], ninth: bool, mask: u16) -> Result<Bounds, u16>
     Ok(b)
 }
 
-// The first of questions 7 to 11 that gets "no", else 0.
-pub fn outline_no(o: &[u16], ninth: bool, mask: u16) -> u16
-    ensures { FirstNo o.now ninth mask result }
+// Questions 7 to 11: the first that gets "no".
+pub fn ask_outline(o: &[u16], ninth: bool, mask: u16) -> Result<(), u16>
+    ensures { FirstOf o.now ninth mask result }
 {
-    match order(o, ninth, mask) {
-        Err(n) => n,
-        Ok(b) => { if some_cell(o, b, mask) { 0 } else { 11 } }
+    let b = order(o, ninth, mask)?;
+    if some_cell(o, b, mask) {
+        Ok(())
+    } else {
+        Err(11)
     }
 }

@@ -1,3 +1,3 @@
-pub mod Along
 pub mod Lists
 pub mod Words
+pub mod Chained

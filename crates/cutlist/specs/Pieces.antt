@@ -1,7 +1,7 @@
 -- Words put into an output, and what must hold of a sheet and the output before.
 -- Assumes nothing.
 use Rattle.std.specs.Prelude.{◌≡◌, true, List, [], ◌∷◌, ℕ, ◌+◌, ◌*◌, ◌≤◌, length}
-use Rattle.defs.specs.Meaning.Limits.{most_vertices}
+use Rattle.defs.specs.Meaning.Limits.{most_vertices, most_pieces}
 use Rattle.defs.specs.Meaning.Sheet.{sheet_v, sheet_p, piece_number, vertex_number, piece_words, pieces_words}
 use Rattle.defs.specs.Computing.Test.{ends_by}
 use Rattle.defs.specs.Computing.Sheets.{q6b, piece_of, piece_records, sheet_pieces}
@@ -42,3 +42,13 @@ pub record PiecesRoom (b : List ℕ) (v : ℕ) (out : List ℕ) : Type 0 where
   pub chain : ChainEnds b v
   pub all_end : AllEnd b (piece_records b)
   pub room : 1 + length (pieces_words (sheet_pieces b)) ≤ length out
+
+-- the next of a piece record
+abbrev pub next_piece : List ℕ → ℕ → ℕ
+next_piece b r = piece_number b r 2
+
+-- the chain from piece record `at` on ends within 200
+pub record ChainFrom (b : List ℕ) (v at : ℕ) : Type 0 where
+  pub vertices : v ≡ sheet_v b
+  pub in_sheet : 16 + 6 * (sheet_v b + sheet_p b) ≤ length b
+  pub ends : ends_by (next_piece b) (sheet_p b) most_pieces at ≡ true

@@ -2,6 +2,7 @@
 -- Assumes nothing.
 use mathlib.Core.Path.{◌≡◌, refl, sym, ap, ◌∙◌}
 use mathlib.Core.Bool.{Bool, true, false, ◌&&◌}
+use mathlib.Core.Logic.{◌⊎◌, inl, inr}
 use mathlib.Core.List.{List, [], ◌∷◌}
 use Prim.Native.Nat.{ℕ, suc, ◌+◌, ◌-◌, ◌*◌, ◌≤◌, ◌<◌}
 use native.Mathlib.Omega.{arith}
@@ -9,14 +10,15 @@ use lib.Dec.{leb}
 use lib.ListN.{length, get_or, take, drop, length-drop}
 use lib.Seq.{drop-drop, get_or-drop}
 use borrow.Author.Tests.{le-leb, lt-leb}
+use Rattle.std.specs.Prelude.{Result, Ok, Err}
 use Rattle.defs.specs.Computing.Calls.{q9b, refusal}
 use Rattle.defs.specs.Computing.Sheets.{vertices_in, list_tails, list_pieces, list_piece_no, q6_listb, q7_listb, first_no}
 use Rattle.laws.proofs.Tests.{asked}
 use Rattle.laws.proofs.Questions.{question_6_list, question_7_list}
-use Rattle.asked.specs.Answers.{FirstNo}
+use Rattle.asked.specs.Answers.{FirstNo, FirstOf}
 use Rattle.records.proofs.Refusals.{no_end, no_on, no_here}
 use Rattle.sheets.proofs.Asking.{not_zero}
-use Rattle.lists.specs.Asked.{PieceWhole, PieceNo, NoneRefused, FirstRefused, first_refusal}
+use Rattle.lists.specs.Asked.{PieceWhole, PieceNo, PieceAsked, NoneRefused, FirstRefused, first_refusal}
 use Rattle.recordbytes.proofs.Tails.{pieces_from, count_is, tail_is, vertices_sum}
 
 -- 7 of the piece at place a
@@ -25,9 +27,9 @@ module _ (list : List ℕ) (a : ℕ) where
   words_left : length (drop a list) ≡ length list - a
   words_left = length-drop a list
 
-  pub seven_none : a ≤ length list → length list - a < 1 → false ≡ q7_listb (drop a list)
+  pub seven_none : a ≡ length list → false ≡ q7_listb (drop a list)
   unfolding q7_listb
-  seven_none l h = go (drop a list) (omega (arith, words_left))
+  seven_none l = go (drop a list) (omega (arith, words_left))
     where
       go : (ws : List ℕ) → length ws ≡ 0 → false ≡ ((leb 3 (get_or ws 0 0) && leb (get_or ws 0 0) 64) && leb (2 + 2 * get_or ws 0 0) (length ws))
       go [] e = refl
@@ -37,13 +39,10 @@ module _ (list : List ℕ) (a : ℕ) where
     count : get_or (drop a list) 0 0 ≡ m
     count = count_is list a m em
 
-    pub seven_few : m < 3 → false ≡ q7_listb (drop a list)
+    pub seven_out : (m < 3) ⊎ ((3 ≤ m) × (64 < m)) → false ≡ q7_listb (drop a list)
     unfolding q7_listb
-    seven_few h = rw (count, lt-leb 3 m h)
-
-    pub seven_many : 3 ≤ m → 64 < m → false ≡ q7_listb (drop a list)
-    unfolding q7_listb
-    seven_many l h = rw (count, le-leb 3 m l, lt-leb m 64 h)
+    seven_out (inl h) = rw (count, lt-leb 3 m h)
+    seven_out (inr q) = rw (count, le-leb 3 m q.0, lt-leb m 64 q.1)
 
     pub seven_is : 3 ≤ m → m ≤ 64 → leb (2 + 2 * m) (length list - a) ≡ q7_listb (drop a list)
     unfolding q7_listb
@@ -56,6 +55,11 @@ module _ (list : List ℕ) (a : ℕ) where
     no_of w ek et f =
         let i : a + 2 + 2 * m - (a + 2) ≡ 2 * m = omega arith in
         record { every = λ R h. f.every R h ∙ rw (w.seven, et, ek, i, count, get_or-drop a list 1 0, drop-drop 2 a list) }
+
+    pub asked_of : {t : Bool} {mask : ℕ} → PieceWhole list a → mask ≡ get_or list (a + 1) 0 → t ≡ q9b mask → (r : Result Unit ℕ) →
+        FirstOf (take (a + 2 + 2 * m - (a + 2)) (drop (a + 2) list)) t mask r → PieceAsked (drop a list) r
+    asked_of w ek et (Ok u) f = no_of w ek et f
+    asked_of w ek et (Err n) f = (no_of w ek et f.0, f.1)
 
     -- the rest of the list after the piece
     tails_step : (left : ℕ) → 0 < left →
@@ -104,13 +108,13 @@ ask_start list e l =
     })
 
 module _ {list : List ℕ} {a left k v : ℕ} (s : Asking list a left k v) (p : 0 < left) where
-  pub ask_whole : {n : ℕ} → PieceNo (drop a list) n → n ≡ 0 → PieceWhole list a
-  ask_whole f z = piece_whole list a (passed_7 list a f z)
+  pub whole_here : PieceNo (drop a list) 0 → PieceWhole list a
+  whole_here f = piece_whole list a (passed_7 list a f refl)
 
-  pub ask_next : {n m : ℕ} → PieceNo (drop a list) n → n ≡ 0 → m ≡ get_or list a 0 →
+  pub ask_next : {m : ℕ} → PieceNo (drop a list) 0 → m ≡ get_or list a 0 →
       Asking list (a + (2 + 2 * m)) (left - 1) (k + 1) (v + m)
-  ask_next {n} {m} f z em =
-      let w = ask_whole f z in
+  ask_next {m} f em =
+      let w = whole_here f in
       let whole : a + (2 + 2 * m) ≤ length list = omega (arith, w.whole, em) in
       record {
         in_list = whole;
@@ -119,18 +123,21 @@ module _ {list : List ℕ} {a left k v : ℕ} (s : Asking list a left k v) (p : 
         sum = omega (arith, s.sum, vertices_sum list a m em left p whole);
         same = λ R h.
             s.same R h ∙ ap (first_no (list_piece_no R) k) (tails_step list a em left p) ∙
-            no_on (list_piece_no R) k (drop a list) (list_tails (left - 1) (drop (a + (2 + 2 * m)) list)) (sym (f.every R h) ∙ z);
+            no_on (list_piece_no R) k (drop a list) (list_tails (left - 1) (drop (a + (2 + 2 * m)) list)) (sym (f.every R h));
       }
 
-  pub ask_stop : {n : ℕ} → PieceNo (drop a list) n → (n ≡ 0 → ⊥) → FirstRefused list (refusal n k)
-  ask_stop {n} f z =
+  pub ask_stop : {n : ℕ} → PieceNo (drop a list) n × (0 < n) → FirstRefused list (refusal n k)
+  ask_stop {n} (f, z) =
       record {
         every = λ R h.
             s.same R h ∙ ap (first_no (list_piece_no R) k) (tails_step list a refl left p) ∙
             no_here (list_piece_no R) k (drop a list) (list_tails (left - 1) (drop (a + (2 + 2 * get_or list a 0)) list))
-            (λ e. z (f.every R h ∙ e)) ∙
+            (λ e. omega (arith, z, f.every R h, e)) ∙
             rw (sym (f.every R h));
       }
+
+pub ask_at : {list : List ℕ} {a left left' k v : ℕ} → left ≡ left' → Asking list a left k v → Asking list a left' k v
+ask_at e s = rw e at s
 
 pub ask_end : {list : List ℕ} {a left k v : ℕ} → Asking list a left k v → left ≡ 0 → NoneRefused list v
 unfolding list_tails vertices_in

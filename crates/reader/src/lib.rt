@@ -8,7 +8,7 @@ ghost use Rattle.reader.specs.Records.{numbers_at};
 const BEFORE_RECORDS: usize = 10;
 
 // A record's three numbers.
-#[derive(Clone, Copy)]
+#[derive(Clone, Copy, Debug, PartialEq, Eq)]
 pub struct Numbers {
     pub first: u16,
     pub second: u16,
@@ -35,31 +35,26 @@ pub struct Reader<'a> {
     pub at: usize,
 }
 
-pub fn start<'a>(sheet: &'a [u8], at: usize) -> Reader<'a>
-    ensures { (result.sheet ≡ sheet.entry) × (result.at ≡ at) }
-{
-    Reader { sheet, at }
-}
+impl<'a> Reader<'a> {
+    // The reader of a sheet at a record.
+    pub fn start(sheet: &'a [u8], at: usize) -> Reader<'a>
+        ensures { (result.sheet ≡ sheet.entry) × (result.at ≡ at) }
+    {
+        Reader { sheet, at }
+    }
 
-// The three numbers of the present record.
-pub fn present<'a>(r: Reader<'a>) -> Numbers
-    requires { 16 + 6 * r.at ≤ length r.sheet.now }
-    ensures { result ≡ numbers_at r.entry.sheet.now r.entry.at }
-{
-    record_at(r.sheet, r.at)
-}
+    // The three numbers of the present record.
+    pub fn present(self) -> Numbers
+        requires { 16 + 6 * self.at ≤ length self.sheet.now }
+        ensures { result ≡ numbers_at self.entry.sheet.now self.entry.at }
+    {
+        record_at(self.sheet, self.at)
+    }
 
-// The same sheet at another record.
-pub fn moved<'a>(r: Reader<'a>, at: usize) -> Reader<'a>
-    ensures { (result.sheet ≡ r.entry.sheet) × (result.at ≡ at) }
-{
-    Reader { sheet: r.sheet, at }
-}
-
-// A reader's record for whoever has no reader: callers need no walk by hand.
-pub fn visit(sheet: &[u8], at: usize) -> Numbers
-    requires { 16 + 6 * at ≤ length sheet.now }
-    ensures { result ≡ numbers_at sheet.now at }
-{
-    present(start(sheet, at))
+    // The same sheet at another record.
+    pub fn moved(self, at: usize) -> Reader<'a>
+        ensures { (result.sheet ≡ self.entry.sheet) × (result.at ≡ at) }
+    {
+        Reader { at, ..self }
+    }
 }

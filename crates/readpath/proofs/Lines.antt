@@ -1,6 +1,7 @@
 -- The lines still to see decide the whole; the coordinates still to see, too. Assumes nothing.
 use mathlib.Core.Path.{◌≡◌, refl, sym, ap, ◌∙◌}
 use mathlib.Core.Bool.{Bool, true, false, false≢true}
+use mathlib.Core.Logic.{◌⊎◌, inl, inr}
 use mathlib.Core.List.{List}
 use Prim.Native.Nat.{ℕ, zero, suc, ◌+◌, ◌-◌, ◌*◌, ◌≤◌, ◌<◌}
 use native.Mathlib.Omega.{arith}
@@ -77,11 +78,15 @@ module _ (b : List ℕ) where
   pub other_length : (length b ≡ 9 * vertices_in b + 1 → ⊥) → Unshaped b
   other_length h = unshaped b (λ t. h (long b t))
 
-  pub too_few : vertices_in b < 3 → Unshaped b
+  too_few : vertices_in b < 3 → Unshaped b
   too_few h = unshaped b (λ t. omega (arith, h, least b t))
 
-  pub too_many : 64 < vertices_in b → Unshaped b
+  too_many : 64 < vertices_in b → Unshaped b
   too_many h = unshaped b (λ t. omega (arith, h, most b t))
+
+  pub other_count : (vertices_in b < 3) ⊎ ((3 ≤ vertices_in b) × (64 < vertices_in b)) → Unshaped b
+  other_count (inl h) = too_few h
+  other_count (inr q) = too_many q.1
 
   pub no_move : {k : ℕ} → k ≡ kind_at b 0 → (k ≡ 1 → ⊥) → Unshaped b
   no_move e h = unshaped b (λ t. h (e ∙ move_kind b 0 (omega (arith, long b t, least b t)) (tags b t).0))

@@ -16,14 +16,12 @@ fn lines_then_close(path: &[u8], n: usize) -> bool
     requires { Long path.now n }
     ensures { result ≡ linesb (n - 1) (drop step_bytes path.now) }
 {
-    let mut i: usize = 1;
-    while i < n {
-        if pathsteps::kind_at(path, pathsteps::STEP_BYTES * i) != pathsteps::LINE {
+    for i in 1..n {
+        if !pathsteps::is_line(path, pathsteps::STEP_BYTES * i) {
             return false;
         }
-        i += 1;
     }
-    pathsteps::kind_at(path, pathsteps::STEP_BYTES * n) == pathsteps::CLOSE
+    pathsteps::is_close(path, pathsteps::STEP_BYTES * n)
 }
 
 // Question 19, with the number of vertices.
@@ -34,13 +32,10 @@ fn shape_of(path: &[u8]) -> Option<usize>
     if path.len() != pathsteps::STEP_BYTES * n + 1 {
         return None;
     }
-    if n < LEAST_VERTICES {
+    if n < LEAST_VERTICES || numbers::MOST_VERTICES < n {
         return None;
     }
-    if numbers::MOST_VERTICES < n {
-        return None;
-    }
-    if pathsteps::kind_at(path, 0) != pathsteps::MOVE {
+    if !pathsteps::is_move(path, 0) {
         return None;
     }
     if !lines_then_close(path, n) {
@@ -55,14 +50,12 @@ fn accepts(path: &[u8], n: usize, words: &mut [u16]) -> bool
     requires fact_2 { 2 * n ≤ length words.old }
     ensures { Accepts path.now n result words.new }
 {
-    let mut i: usize = 0;
-    while i < n {
+    for i in 0..n {
         let Some((x, y)) = pathsteps::vertex_at(path, pathsteps::STEP_BYTES * i) else {
             return false;
         };
         words[2 * i] = x;
         words[2 * i + 1] = y;
-        i += 1;
     }
     true
 }
@@ -87,8 +80,8 @@ fn read_shaped(path: &[u8], n: usize, out: &mut [u16]) -> Result<u32, Refusal>
 pub fn read_path(path: &[u8], out: &mut [u16]) -> Result<u32, Refusal>
     ensures { PathReadStep path.now out.old result out.new }
 {
-    match shape_of(path) {
-        Some(n) => read_shaped(path, n, out),
-        None => refused(19, 0),
-    }
+    let Some(n) = shape_of(path) else {
+        return refused(19, 0);
+    };
+    read_shaped(path, n, out)
 }

@@ -71,3 +71,8 @@ module _ {list out₀ out T : List ℕ} {a left v t : ℕ} (s : Outlining list o
   pub outline_end : left ≡ 0 → out ≡ T
   unfolding outline_bytes
   outline_end e = rw e at s.rest
+
+-- the same at the same places
+pub outline_at : {list out₀ out T : List ℕ} {a a' left left' v v' t t' : ℕ} → a ≡ a' → left ≡ left' → v ≡ v' → t ≡ t' →
+    Outlining list out₀ out T a left v t → Outlining list out₀ out T a' left' v' t'
+outline_at e f g h s = rw (e, f, g, h) at s

@@ -122,6 +122,10 @@ pub vertices_end : {list out₀ out T : List ℕ} {a left v t : ℕ} → Vertexi
 unfolding vertices_bytes list_tails
 vertices_end s e = rw e at s.rest
 
+pub vertices_at : {list out₀ out T : List ℕ} {a left left' v t : ℕ} → left ≡ left' → Vertexing list out₀ out T a left v t →
+    Vertexing list out₀ out T a left' v t
+vertices_at e s = rw e at s
+
 -- the piece records
 
 pieces_step : (r v : ℕ) (p : Piece) (ps : List Piece) →
@@ -191,3 +195,7 @@ module _ {list out₀ out T : List ℕ} {a left r v t : ℕ} (s : Recording list
 pub pieces_end : {list out₀ out T : List ℕ} {a left r v t : ℕ} → Recording list out₀ out T a left r v t → left ≡ 0 → out ≡ T
 unfolding pieces_bytes list_tails
 pieces_end s e = rw e at s.rest
+
+pub pieces_at : {list out₀ out T : List ℕ} {a left left' r r' v t t' : ℕ} → left ≡ left' → r ≡ r' → t ≡ t' →
+    Recording list out₀ out T a left r v t → Recording list out₀ out T a left' r' v t'
+pieces_at e f g s = rw (e, f, g) at s

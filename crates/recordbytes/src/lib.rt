@@ -12,16 +12,16 @@ fn put_outline(list: &[u16], from: usize, count: usize, first: usize, out: &mut 
     requires { OutlineFits list.now from count first out.old to }
     ensures { out.new ≡ sets out.old to (outline_bytes first (take (2 * count) (drop from list.now))) }
 {
-    let mut a = from;
-    let mut left = count;
-    let mut v = first;
-    let mut t = to;
-    while 0 < left {
-        onerecord::set_record(out, t, list[a], list[a + 1], onerecord::link(v, left));
-        a += 2;
-        left -= 1;
-        v += 1;
-        t += fields::RECORD_BYTES;
+    for i in 0..count {
+        let a = from + 2 * i;
+        let t = to + fields::RECORD_BYTES * i;
+        onerecord::set_record(
+            out,
+            t,
+            list[a],
+            list[a + 1],
+            onerecord::link(first + i, count - i),
+        );
     }
 }
 
@@ -30,15 +30,13 @@ pub fn put_vertices(list: &[u16], count: usize, out: &mut [u8])
     requires { ListFits list.now count out.old }
     ensures { out.new ≡ sets out.old 16 (vertices_bytes 1 (map list_piece (list_tails count (drop 1 list.now)))) }
 {
-    let mut a: usize = 1;
-    let mut left = count;
-    let mut v: usize = 1;
+    let mut a = 1;
+    let mut v = 1;
     let mut t = fields::FRONT_BYTES;
-    while 0 < left {
+    for i in 0..count {
         let m = list[a] as usize;
         put_outline(list, a + 2, m, v, out, t);
         a += 2 + 2 * m;
-        left -= 1;
         v += m;
         t += fields::RECORD_BYTES * m;
     }
@@ -50,18 +48,19 @@ pub fn put_pieces(list: &[u16], count: usize, out: &mut [u8], to: usize)
     requires fact_2 { to + 6 * count ≤ length out.old }
     ensures { out.new ≡ sets out.old to (pieces_bytes 1 1 (map list_piece (list_tails count (drop 1 list.now)))) }
 {
-    let mut a: usize = 1;
-    let mut left = count;
-    let mut r: usize = 1;
-    let mut v: usize = 1;
-    let mut t = to;
-    while 0 < left {
+    let mut a = 1;
+    let mut v = 1;
+    for i in 0..count {
         let m = list[a] as usize;
-        onerecord::set_record(out, t, v as u16, list[a + 1], onerecord::link(r, left));
+        let t = to + fields::RECORD_BYTES * i;
+        onerecord::set_record(
+            out,
+            t,
+            v as u16,
+            list[a + 1],
+            onerecord::link(i + 1, count - i),
+        );
         a += 2 + 2 * m;
-        left -= 1;
-        r += 1;
         v += m;
-        t += fields::RECORD_BYTES;
     }
 }

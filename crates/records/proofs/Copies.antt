@@ -3,6 +3,7 @@
 use mathlib.Core.Path.{◌≡◌, refl, sym, ap, ◌∙◌}
 use mathlib.Core.List.{List, [], ◌∷◌}
 use mathlib.Core.Bool.{true, false}
+use mathlib.Core.Logic.{◌⊎◌, inl, inr}
 use Prim.Native.Nat.{ℕ, suc, ◌+◌, ◌-◌, ◌*◌, ◌≤◌, ◌<◌}
 use native.Mathlib.Omega.{arith}
 use lib.ListN.{length, set, take}
@@ -14,7 +15,7 @@ use Rattle.defs.specs.Computing.Test.{chain_by, ends_by}
 use Rattle.defs.specs.Computing.Sheets.{q6b, piece_records, piece_of, vertices_of}
 use Rattle.laws.proofs.Walks.{chain_step, chain_zero}
 use Rattle.laws.proofs.SheetChains.{length-vertex_words}
-use Rattle.sheets.proofs.Chains.{Ends, Ill, Walk, walk_start, walk_next, walk_end, chain_more}
+use Rattle.sheets.proofs.Chains.{Ends, Ill, Walk, walk_start, walk_next, walk_long, walk_past, walk_end, chain_more}
 use Rattle.reader.specs.Records.{record_number}
 use Rattle.records.specs.Records.{Chains, PieceChains, next_vertex, Gathered}
 
@@ -28,6 +29,12 @@ piece_chains b v p f (Some k) e g h c =
 piece_chains b v p f None e g h c =
     let d : Ill (λ x. record_number b (sheet_v b + x) 2) (sheet_p b) most_pieces (first_piece b) = rw (e, g, h) at c in
     record { fails = d.ill }
+
+-- a walk ends where no record is left, or the next is not in the sheet
+pub walk_out : {next : ℕ → ℕ} {most n r at left : ℕ} {X : Type 0} → Walk next most n r at left → 0 < at →
+    (left ≡ 0) ⊎ (X × (most < at)) → Ill next most n r
+walk_out w p (inl e) = walk_long w p e
+walk_out w p (inr q) = walk_past w p q.1
 
 -- k vertices are copied
 pub record Gathering (b : List ℕ) (most r : ℕ) (w₀ w : List ℕ) (at k : ℕ) : Type 0 where
@@ -56,6 +63,11 @@ module _ {b : List ℕ} {most r : ℕ} {w₀ w : List ℕ} where
             rw z (chain_step (next_vertex b) (most_vertices - (k + 1)) at p) in
             rw (ex, ey, en, i, j) (rw s at g.words);
       }
+
+  pub gather_out : {at k : ℕ} {X : Type 0} → Gathering b most r w₀ w at k → 0 < at → (64 ≤ k) ⊎ (X × (most < at)) →
+      Ill (next_vertex b) most most_vertices r
+  gather_out g p (inl l) = walk_long g.walk p (omega arith)
+  gather_out g p (inr q) = walk_past g.walk p q.1
 
   pub gather_end : {at k : ℕ} → Gathering b most r w₀ w at k → at ≡ 0 → Gathered b most r w₀ w k
   gather_end {at} {k} g e =

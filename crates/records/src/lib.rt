@@ -6,6 +6,8 @@ ghost use Rattle.defs.specs.Meaning.Sheet.{sheet_v, sheet_p};
 ghost use Rattle.reader.specs.Records.{record_number};
 ghost use Rattle.records.specs.Records.{Chains, PieceChains, Gathers};
 
+use reader::Reader;
+
 pub const MOST_PIECES: usize = 200;
 
 // The chain from record `first` of the records after `base` others: whether it stays in 1 to `most` and ends within `limit`, and
@@ -17,13 +19,10 @@ pub fn follow(sheet: &[u8], base: usize, most: usize, first: u16, limit: usize) 
     let mut at = first as usize;
     let mut left = limit;
     while 0 < at {
-        if left == 0 {
+        if left == 0 || most < at {
             return None;
         }
-        if most < at {
-            return None;
-        }
-        at = reader::visit(sheet, base + at).next as usize;
+        at = Reader::start(sheet, base + at).present().next as usize;
         left -= 1;
     }
     Some(limit - left)
@@ -51,15 +50,12 @@ pub fn gather(
     ensures { Gathers sheet.now vertices first words.old words.new result }
 {
     let mut at = first as usize;
-    let mut k: usize = 0;
+    let mut k = 0;
     while 0 < at {
-        if numbers::MOST_VERTICES <= k {
+        if numbers::MOST_VERTICES <= k || vertices < at {
             return None;
         }
-        if vertices < at {
-            return None;
-        }
-        let n = reader::visit(sheet, at);
+        let n = Reader::start(sheet, at).present();
         words[2 * k] = n.first;
         words[2 * k + 1] = n.second;
         at = n.next as usize;

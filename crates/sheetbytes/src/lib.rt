@@ -12,11 +12,7 @@ fn put_mark(out: &mut [u8])
     requires { 16 ≤ length out.old }
     ensures { out.new ≡ sets out.old 0 mark }
 {
-    let mark = b"NJ\x01\x00";
-    out[0] = mark[0];
-    out[1] = mark[1];
-    out[2] = mark[2];
-    out[3] = mark[3];
+    out[..4].copy_from_slice(&fields::MARK);
 }
 
 // The first 16 bytes of a sheet.
@@ -39,7 +35,7 @@ pub fn put_sheet(w: u16, r: u16, n: u16, list: &[u16], v: usize, out: &mut [u8])
     ensures { out.new ≡ sets out.old 0 (sheet_bytes w r n (list_pieces list.now)) }
 {
     let p = list[0];
-    put_front(w, r, n, numbers::less(1, p), v as u16, p, out);
+    put_front(w, r, n, p.min(1), v as u16, p, out);
     recordbytes::put_vertices(list, p as usize, out);
     recordbytes::put_pieces(
         list,

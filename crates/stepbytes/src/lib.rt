@@ -15,10 +15,7 @@ fn put_bits(out: &mut [u8], at: usize, n: u32)
     requires { at + 3 < length out.old }
     ensures { out.new ≡ sets out.old at (four_bytes n) }
 {
-    out[at] = (n % 256) as u8;
-    out[at + 1] = (n / 256 % 256) as u8;
-    out[at + 2] = (n / 65536 % 256) as u8;
-    out[at + 3] = (n / 16777216) as u8;
+    out[at..at + 4].copy_from_slice(&n.to_le_bytes());
 }
 
 // Two coordinates.
@@ -41,11 +38,11 @@ pub fn put_step(out: &mut [u8], at: usize, s: Step)
     match s {
         Step::Move { x, y } => {
             out[at] = pathsteps::MOVE;
-            put_point(out, at + 1, Point { x: x, y: y });
+            put_point(out, at + 1, Point { x, y });
         }
         Step::Line { x, y } => {
             out[at] = pathsteps::LINE;
-            put_point(out, at + 1, Point { x: x, y: y });
+            put_point(out, at + 1, Point { x, y });
         }
         Step::Close => {
             out[at] = pathsteps::CLOSE;

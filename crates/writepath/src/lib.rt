@@ -17,11 +17,9 @@ fn put_lines(outline: &[u16], out: &mut [u8])
     ensures { out.new ≡ sets out.old step_bytes (lines_bytes (drop 2 outline.now)) }
 {
     let n = outline.len() / 2;
-    let mut i: usize = 1;
-    while i < n {
+    for i in 1..n {
         let s = stepbytes::line_to(outline[2 * i], outline[2 * i + 1]);
         stepbytes::put_step(out, pathsteps::STEP_BYTES * i, s);
-        i += 1;
     }
     stepbytes::put_step(out, pathsteps::STEP_BYTES * n, Step::Close);
 }
@@ -53,8 +51,8 @@ fn write_passed(outline: &[u16], out: &mut [u8]) -> Result<u32, Refusal>
 pub fn write_path(outline: &[u16], out: &mut [u8]) -> Result<u32, Refusal>
     ensures { PathWriteStep outline.now out.old result out.new }
 {
-    match checks::bounds(outline) {
-        Err(n) => refused(n, 1),
-        Ok(b) => write_passed(outline, out),
+    if let Err(n) = checks::bounds(outline) {
+        return refused(n, 1);
     }
+    write_passed(outline, out)
 }

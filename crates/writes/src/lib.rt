@@ -11,10 +11,7 @@ use defs::{Refusal, refused};
 fn count_fits(list: &[u16]) -> bool
     ensures { result ≡ q6_listb list.now }
 {
-    if list.len() < 1 {
-        return false;
-    }
-    list[0] as usize <= records::MOST_PIECES
+    1 <= list.len() && list[0] as usize <= records::MOST_PIECES
 }
 
 // Questions 2 and 15 of a list of v vertices that passes the others; then its sheet.

@@ -2,7 +2,7 @@
 use mathlib.Core.Path.{sym, ap}
 use native.Mathlib.Omega.{arith}
 use lib.Seq.{length-take-le}
-use Rattle.reader.specs.declared.Numbers.{Numbers}
+use Rattle.reader.proofs.Told.{first_read}
 use Rattle.records.proofs.Copies.{gathered_long}
 use Rattle.piece.proofs.Pieces.{not_broken, outline, mask, ordered, none_before}
 use Rattle.piece.proofs.lay_piece.Goals as goal
@@ -35,4 +35,4 @@ returns-in-Some c = let g = rw c.in-Some.is at c.gather.ensures in
     rw (outline _ _ c.requires.fact_1 first c.requires.fact_2 g (omega arith) second, mask _ _ c.requires.fact_1 first c.requires.fact_2 g (omega arith) second) at c.lay_outline.ensures
 
 pub returns-in-None : goal.returns-in-None
-returns-in-None c = absurd (not_broken _ _ c.requires.fact_1 (ap (λ (n : Numbers). n.first) c.visit-piece.ensures) c.requires.fact_2 (rw c.in-None.is at c.gather.ensures))
+returns-in-None c = absurd (not_broken _ _ c.requires.fact_1 (first_read c.start.ensures c.present-piece.ensures) c.requires.fact_2 (rw c.in-None.is at c.gather.ensures))

@@ -1,10 +1,6 @@
 -- The lines still to see decide the whole. Assumes nothing.
 use Rattle.readpath.proofs.Lines.{Seen}
-use Prim.Native.Nat.{◌-◌}
 use Rattle.readpath.proofs.lines_then_close.Given as goal
 
 abbrev pub invariant-loop-i : goal.invariant-loop-i
 invariant-loop-i l = Seen l.path l.n l.i
-
-abbrev pub decreases-loop-i : goal.decreases-loop-i
-decreases-loop-i l = l.n - l.i

@@ -6,5 +6,5 @@ use Rattle.readpath.proofs.read_path.Goals as goal
 pub read_shaped-requires : goal.read_shaped-requires
 read_shaped-requires c = rw c.in-Some.is at c.shape_of.ensures
 
-pub returns-in-None : goal.returns-in-None
-returns-in-None c = other_shape (rw c.in-None.is at c.shape_of.ensures) c.refused.ensures refl
+pub returns-in_default : goal.returns-in_default
+returns-in_default c = other_shape (rw c.in_default.is at c.shape_of.ensures) c.refused.ensures refl

@@ -1,16 +1,9 @@
--- Four stores are the bytes of the bits. Assumes nothing.
-use Prim.Native.Nat.{◌+◌, ◌/◌, ◌%◌}
-use lib.ListN.{set}
-use native.Mathlib.Omega.{arith}
-use lib.Seq.{lt-length-set}
-use Rattle.stepbytes.proofs.Puts.{four_stores}
+-- The bytes of the bits, where they go. Assumes nothing.
+use mathlib.Core.Path.{◌∙◌}
+use borrow.Author.Rules.{rules}
+use Rattle.stepbytes.proofs.Puts.{four_copied}
 use Rattle.stepbytes.proofs.put_bits.Goals as goal
 
-pub bounds-out-at-2 : goal.bounds-out-at-2
-bounds-out-at-2 c = lt-length-set c.args.out.now _ _ (omega (arith, c.requires))
-
-pub bounds-out-at-3 : goal.bounds-out-at-3
-bounds-out-at-3 c = lt-length-set (set c.args.out.now c.args.at (c.args.n % 256)) (c.args.at + 1) (c.args.n / 256 % 256) (lt-length-set c.args.out.now c.args.at (c.args.n % 256) (omega (arith, c.requires)))
-
 pub returns : goal.returns
-returns c = four_stores c.args.out.now c.args.at c.args.n
+returns c =
+    four_copied c.args.out.now c.args.at c.args.n (search rules) (c.copy_from_slice.ensures.after ∙ c.to_le_bytes.ensures) c.requires

@@ -5,7 +5,7 @@ use Rattle.writepath.proofs.Outputs.{refused_no}
 use Rattle.writepath.proofs.write_path.Goals as goal
 
 pub write_passed-requires : goal.write_passed-requires
-write_passed-requires c = let p = rw c.in-Ok.is at c.bounds.ensures in passed _ p.0
+write_passed-requires c = let p = rw c.in_default.is at c.bounds.ensures in passed _ p.0
 
 pub returns-in-Err : goal.returns-in-Err
 returns-in-Err c = let p = rw c.in-Err.is at c.bounds.ensures in refused_no _ _ p.0 p.1 c.refused.ensures refl
