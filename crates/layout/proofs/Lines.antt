@@ -11,8 +11,8 @@ use Rattle.defs.specs.declared.Totals.{Totals}
 use Rattle.defs.specs.Computing.Ascii.{ascii}
 use Rattle.defs.specs.Computing.Text.{decimal, long_decimal, spaced, line, entry_line, totals_line}
 use Rattle.words.specs.Put.{Put}
-use Rattle.layout.specs.Lines.{fate_at, entries_lines, EntriesFit}
-use Rattle.print.proofs.Puts.{decimal_few, long_few, spaced_few, Putting, put_start, put_next, put_end}
+use Rattle.layout.specs.Lines.{fate_at, entries_lines}
+use Rattle.print.proofs.Puts.{decimal_few, long_few, spaced_few, Putting, put_next, put_end}
 
 placed_few : (t c h : ℕ) → length (line " placed" (t ∷ c ∷ h ∷ [])) ≤ 26
 unfolding line ascii
@@ -35,11 +35,6 @@ pub record Listing (ws out₀ out : List ℕ) (at count i to : ℕ) : Type 0 whe
   pub within : i ≤ count
   pub room : to + 31 * (count - i) ≤ length out₀
   pub putting : Putting out₀ out at (entries_lines ws 0 count) to (entries_lines ws i (count - i))
-
-pub list_start : {ws out : List ℕ} {at count : ℕ} → EntriesFit out at ws count → Listing ws out out at count 0 at
-list_start {ws} {out} {at} {count} f =
-    let all : count - 0 ≡ count = omega arith in
-    record { within = omega arith; room = omega (arith, f.room); putting = rw all (put_start out at (entries_lines ws 0 count)) }
 
 module _ {ws out₀ out : List ℕ} {at count i to : ℕ} (s : Listing ws out₀ out at count i to) where
   pub list_next : {out' : List ℕ} {to' : ℕ} → i < count →

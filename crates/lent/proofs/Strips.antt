@@ -2,7 +2,7 @@
 use mathlib.Core.Path.{◌≡◌, refl}
 use mathlib.Core.Bool.{Bool, true, false}
 use mathlib.Core.List.{List}
-use Prim.Native.Nat.{ℕ, ◌≤◌, ◌<◌}
+use Prim.Native.Nat.{ℕ, ◌<◌}
 use native.Mathlib.Omega.{arith}
 use lib.ListN.{length}
 use lib.Dec.{eqb}
@@ -12,9 +12,8 @@ use Rattle.defs.specs.Meaning.Sheet.{sheet_w, sheet_r, sheet_n}
 use Rattle.defs.specs.Computing.Words.{limits_no}
 use Rattle.defs.specs.Computing.Calls.{refusal}
 use Rattle.defs.specs.Computing.Sheets.{q1b, q2b, sheet_no}
-use Rattle.defs.specs.Computing.Text.{program_strip}
 use Rattle.laws.proofs.Questions.{limits_none}
-use Rattle.lent.specs.Strips.{StripFor, exact, early, StripWords}
+use Rattle.lent.specs.Strips.{StripFor, early, StripWords}
 
 -- the strip
 
@@ -37,6 +36,3 @@ strip_early_limits b l = record { few = omega arith; serves = go (q1b b) (q2b b)
     go false u e f = early (refusal 1 0) (λ fourth. rw e)
     go true false e f = early (refusal 2 0) (λ fourth. rw (e, f))
     go true true e f = early (refusal (limits_no (sheet_w b) (sheet_r b) (sheet_n b)) 0) (λ fourth. rw (e, f, too_many b l))
-
-pub strip_exact : (b : List ℕ) {n : ℕ} → sheet_n b ≤ most_columns → n ≡ program_strip b → StripWords b n
-strip_exact b l e = record { few = omega (arith, e); serves = exact e }

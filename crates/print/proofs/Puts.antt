@@ -6,8 +6,8 @@ use mathlib.Core.List.{List, [], ◌∷◌, ◌++◌, append_assoc}
 use Prim.Native.Nat.{ℕ, zero, suc, ◌+◌, ◌-◌, ◌*◌, ◌/◌, ◌%◌, ◌≤◌, ◌<◌}
 use native.Mathlib.Omega.{arith}
 use native.Mathlib.Numerals.{add-one}
-use lib.ListN.{length, get_or, set, take, drop, length-drop, length-set, length-append, drop_of_length-le}
-use lib.Seq.{sets, sets-eq, take_all, length-sets, drop-cons, drop-drop, drop-set-lt, get_or-set_same}
+use lib.ListN.{length, get_or, set, take, drop, length-set, length-append, drop_of_length-le}
+use lib.Seq.{sets, sets-eq, length-sets, drop-cons, drop-drop, drop-set-lt, get_or-set_same}
 use borrow.Rule.Slice.PartMut.{put_mid}
 use lib.Dec.{ltb}
 use borrow.Author.Tests.{lt-ltb, le-ltb}
@@ -22,9 +22,6 @@ use Rattle.print.specs.Spelled.{Spelled}
 pub record Spelling (k n : ℕ) (text : List ℕ) (rest i : ℕ) : Type 0 where
   pub long : length text ≡ k
   pub left : digits i rest (drop i text) ≡ digits k n []
-
-pub spell_start : (n : ℕ) (text : List ℕ) → Spelling (length text) n text n (length text)
-spell_start n text = record { long = refl; left = ap (digits (length text) n) (drop_of_length-le text (omega arith)) }
 
 -- the digit at place i - 1
 module _ {k n : ℕ} {text : List ℕ} {rest i d : ℕ} (s : Spelling k n text rest i) (some : 0 < i) (few : i ≤ k) (f : d ≡ 48 + rest % 10) where
@@ -109,11 +106,6 @@ then {o} {at = at} {xs = xs} {ys = ys} p q =
 pub same_put : {o o' : List ℕ} {at r : ℕ} {xs ys : List ℕ} → xs ≡ ys → Put o o' at xs r → Put o o' at ys r
 same_put e p = rw e at p
 
--- the digits at the end of k bytes
-pub digits_put : {o o' text : List ℕ} {at k n r q : ℕ} → Spelled k n text r → Put o o' at (take (k - r) (drop r text)) q →
-    Put o o' at (digits k n []) q
-digits_put {text = text} {k = k} {r = r} s = same_put (take_all (k - r) (drop r text) (omega (arith, length-drop r text, s.long)) ∙ s.is)
-
 pub one_then : {o o' : List ℕ} {at r : ℕ} {xs : List ℕ} (x : ℕ) → Put (set o at x) o' (at + 1) xs r → Put o o' at (x ∷ xs) r
 one_then {at = at} x p = record { words = p.words ∙ rw (add-one at); after = omega (arith, p.after) }
 
@@ -145,9 +137,6 @@ pub record Spacing (ns out₀ out : List ℕ) (at i to : ℕ) : Type 0 where
   pub within : i ≤ length ns
   pub room : to + 6 * (length ns - i) ≤ length out₀
   pub putting : Putting out₀ out at (spaced ns) to (spaced (drop i ns))
-
-pub space_start : {ns out : List ℕ} {at : ℕ} → at + 6 * length ns ≤ length out → Spacing ns out out at 0 at
-space_start {ns} {out} {at} l = record { within = omega arith; room = omega arith; putting = put_start out at (spaced ns) }
 
 module _ {ns out₀ out : List ℕ} {at i to : ℕ} (s : Spacing ns out₀ out at i to) where
   pub space_next : {out' : List ℕ} {to' : ℕ} → i < length ns → Put (set out to 32) out' (to + 1) (decimal (get_or ns i 0)) to' →

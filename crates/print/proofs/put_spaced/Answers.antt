@@ -1,10 +1,7 @@
 -- The numbers still to put, each after a space, give the whole. Assumes nothing.
 use native.Mathlib.Omega.{arith}
-use Rattle.print.proofs.Puts.{space_start, space_next, space_end}
+use Rattle.print.proofs.Puts.{space_next, space_end}
 use Rattle.print.proofs.put_spaced.Goals as goal
-
-pub loop-n-init : goal.loop-n-init
-loop-n-init c = space_start c.requires
 
 pub loop-n-preserved : goal.loop-n-preserved
 loop-n-preserved c = space_next c.loop-n.invariant (omega arith) c.put_decimal-to.ensures

@@ -1,10 +1,7 @@
 -- The digits from the last on, by what is left to spell. Assumes nothing.
 use native.Mathlib.Omega.{arith}
-use Rattle.print.proofs.Puts.{spell_start, spell_next, spell_end, spell_all}
+use Rattle.print.proofs.Puts.{spell_next, spell_end, spell_all}
 use Rattle.print.proofs.spell.Goals as goal
-
-pub loop-i-init : goal.loop-i-init
-loop-i-init c = spell_start c.args.n c.args.text.now
 
 pub returns-then-rest-lt10 : goal.returns-then-rest-lt10
 returns-then-rest-lt10 c = spell_end c.loop-i.invariant (omega arith) (omega arith) c.digit.ensures (omega arith)

@@ -1,12 +1,9 @@
 -- The parts of a vertex, one after another, and their room. Assumes nothing.
 use native.Mathlib.Omega.{arith}
 use lib.ListN.{length-set}
-use Rattle.print.proofs.Puts.{put_long, decimal_few}
+use Rattle.print.proofs.Puts.{decimal_few}
 use Rattle.readable.proofs.VertexText.{vertex_put, vertex_few, after_x}
 use Rattle.readable.proofs.put_vertex.Goals as goal
-
-pub put_decimal-a-requires : goal.put_decimal-a-requires
-put_decimal-a-requires c = simp length-set (omega (arith, c.requires))
 
 pub bounds-out-a : goal.bounds-out-a
 bounds-out-a c =
@@ -25,12 +22,6 @@ put_decimal-requires c =
     after_x c.args.out.now c.args.at
     c.args.x c.requires c.put_decimal-a.ensures in
     simp length-set (omega (arith, room))
-
-pub shape_of-out : goal.shape_of-out
-shape_of-out c =
-    put_long
-    (vertex_put c.args.out.now
-    c.put_decimal-a.ensures c.put_decimal.ensures)
 
 pub returns : goal.returns
 returns c = let put =
