@@ -31,17 +31,9 @@ use mathlib.Core.Path.{◌≡◌, refl}
 use mathlib.Core.Bool.{true, false}
 use mathlib.Core.List.{List, [], ◌∷◌}
 use Prim.Native.Nat.{ℕ}
+use Rattle.std.specs.Prelude.{Some, None, Ok, Err}
 use Rattle.defs.specs.declared.Position.{Position}
-use Rattle.defs.specs.declared.Opening.TheVariants.{Opened, Refused as NotOpened}
-use Rattle.defs.specs.declared.Covering.TheVariants.{Runs, Refused as NotCovered}
-use Rattle.defs.specs.declared.Placing.TheVariants.{Placed, Refused as NotPlaced}
-use Rattle.defs.specs.declared.Asking.TheVariants.{Found, Refused as NotFound}
-use Rattle.defs.specs.declared.Committing.TheVariants.{Committed, Refused as NotCommitted}
-use Rattle.defs.specs.declared.Reading.TheVariants.{Read, Refused as NotRead}
-use Rattle.defs.specs.declared.Writing.TheVariants.{Written, Refused as NotWritten}
-use Rattle.defs.specs.declared.Laying.TheVariants.{Laid, Refused as NotLaid}
 use Rattle.defs.specs.declared.Fate.TheVariants.{Placed as FatePlaced, Refused as FateRefused}
-use Rattle.defs.specs.declared.Retracing.TheVariants.{Nowhere, Twice, Refused as NotTraced}
 use Rattle.defs.specs.Computing.Test.{list_from}
 use Rattle.defs.specs.Computing.Cells.{Rows}
 use Rattle.defs.specs.Computing.Words.{well_formedb, columns_runs}
@@ -53,7 +45,6 @@ use Rattle.defs.specs.Computing.Lay.{used_in, lay_answer, lay_output}
 use Rattle.defs.specs.Computing.Ascii.{ascii}
 use Rattle.defs.specs.Computing.Text.{totals_line, lay_text}
 use Rattle.defs.specs.Computing.Runs.{runs}
-use Rattle.pathdefs.specs.declared.PathReading.TheVariants.{Words, Refused as NotPath}
 use Rattle.pathdefs.specs.Computing.PathRuns.{path_runs}
 use Rattle.pathdefs.specs.Computing.Paths.{read_path_answer, read_path_output, write_path_answer, write_path_output}
 use Rattle.strokes.specs.Retrace.{rise_alike, level, run_along, stand_along, sharesb, shared_after, first_pair, retrace_answer}
@@ -103,8 +94,8 @@ fn numbers<T: Copy + Into<u64>>(words: &[T]) -> String {
     list(words.iter().map(|&word| word.into().to_string()))
 }
 
-fn refused(case: &str, refusal: Refusal) -> String {
-    format!("{case} (refusal {} {})", refusal.number, refusal.ordinal)
+fn refused(refusal: Refusal) -> String {
+    format!("Err (refusal {} {})", refusal.number, refusal.ordinal)
 }
 
 fn position(p: Position) -> String {
@@ -113,15 +104,15 @@ fn position(p: Position) -> String {
 
 fn placed(answer: Result<Position, Refusal>) -> String {
     match answer {
-        Ok(p) => format!("Placed {}", position(p)),
-        Err(refusal) => refused("NotPlaced", refusal),
+        Ok(p) => format!("Ok {}", position(p)),
+        Err(refusal) => refused(refusal),
     }
 }
 
 fn committed(answer: Result<(), Refusal>) -> String {
     match answer {
-        Ok(()) => String::from("Committed"),
-        Err(refusal) => refused("NotCommitted", refusal),
+        Ok(()) => String::from("Ok tt"),
+        Err(refusal) => refused(refusal),
     }
 }
 
@@ -163,8 +154,8 @@ fn cover_row(random: &mut Random, table: &mut Table) {
     let before = numbers(&output);
     let length = output.len();
     let answer = match cover(&outline, turn, r, g, &mut output) {
-        Ok(runs) => format!("Runs {runs}"),
-        Err(refusal) => refused("NotCovered", refusal),
+        Ok(runs) => format!("Ok {runs}"),
+        Err(refusal) => refused(refusal),
     };
     let outline = numbers(&outline);
     table.row(
@@ -182,8 +173,8 @@ fn open_row(random: &mut Random, table: &mut Table) {
     let g = random.pick(&[0u16, 1, 400, 401]);
     let length = LEADING + usize::from(n) + random.pick(&[0, 3, 4, 5, 40, 64_000, 64_004]);
     let answer = match open(w, r, n, g, &mut vec![7u16; length]) {
-        Ok(()) => String::from("Opened"),
-        Err(refusal) => refused("NotOpened", refusal),
+        Ok(()) => String::from("Ok tt"),
+        Err(refusal) => refused(refusal),
     };
     table.row(&format!("open_answer {w} {r} {n} {g} {length}"), &answer);
 }
@@ -208,24 +199,21 @@ fn limits_row(random: &mut Random, table: &mut Table, wrong: usize) {
     };
     let sheet = Job { figures, pieces }.sheet();
     let refusal = open(w, r, n, g, &mut []).expect_err("out of limits");
-    table.row(
-        &format!("open_answer {w} {r} {n} {g} 0"),
-        &refused("NotOpened", refusal),
-    );
+    table.row(&format!("open_answer {w} {r} {n} {g} 0"), &refused(refusal));
     let refusal = write(w, r, n, &words, &mut [9; 200]).expect_err("out of limits");
     table.row(
         &format!("write_answer {w} {r} {n} {} 200", numbers(&words)),
-        &refused("NotWritten", refusal),
+        &refused(refusal),
     );
     let (refusal, bytes) = (read(&sheet, &mut [9; 40]), numbers(&sheet));
     table.row(
         &format!("read_answer {bytes} 40"),
-        &refused("NotRead", refusal.expect_err("out of limits")),
+        &refused(refusal.expect_err("out of limits")),
     );
     let refusal = lay(&sheet, g, &mut [3; 30], &mut [9; 4], &mut [1; 40]);
     table.row(
         &format!("lay_answer {bytes} {g} 30 4 40"),
-        &refused("NotLaid", refusal.expect_err("out of limits")),
+        &refused(refusal.expect_err("out of limits")),
     );
     let text = lay_text(&sheet);
     table.row(&format!("lay_text {bytes}"), &format!("ascii {text:?}"));
@@ -296,8 +284,8 @@ fn ask_row(random: &mut Random, table: &mut Table) {
     let (mask, mut work) = (any_mask(random), vec![1u16; random.index(30)]);
     let tried = ask(&strip, &outline, mask, &mut work);
     let answer = match tried.answer {
-        Ok(p) => format!("Found {}", position(p)),
-        Err(refusal) => refused("NotFound", refusal),
+        Ok(p) => format!("Ok {}", position(p)),
+        Err(refusal) => refused(refusal),
     };
     let (strip, outline) = (numbers(&strip), numbers(&outline));
     let call = format!("{strip} {outline} {mask} {}", work.len());
@@ -373,7 +361,7 @@ fn commit_rows(random: &mut Random, table: &mut Table) {
         let call = format!("commit_answer {strip} {outline} {at} {}", work.len());
         table.row(&call, &committed(answer));
         if answer.is_ok() {
-            let left = format!("columns_runs (placed_strip {strip} {outline} (Placed {at}))");
+            let left = format!("columns_runs (placed_strip {strip} {outline} (Ok {at}))");
             table.row(&left, &columns(&after));
         }
     }
@@ -461,9 +449,11 @@ fn read_row(random: &mut Random, table: &mut Table) {
             resolution,
             columns,
         }) => {
-            format!("Read (record {{ width = {width}; resolution = {resolution}; columns = {columns} }})")
+            format!(
+                "Ok (record {{ width = {width}; resolution = {resolution}; columns = {columns} }})"
+            )
         }
-        Err(refusal) => refused("NotRead", refusal),
+        Err(refusal) => refused(refusal),
     };
     let sheet = numbers(&sheet);
     table.row(&format!("read_answer {sheet} {length}"), &answer);
@@ -495,8 +485,8 @@ fn write_row(random: &mut Random, table: &mut Table) {
     let before = numbers(&output);
     let length = output.len();
     let answer = match write(width, resolution, columns, &words, &mut output) {
-        Ok(size) => format!("Written {size}"),
-        Err(refusal) => refused("NotWritten", refusal),
+        Ok(size) => format!("Ok {size}"),
+        Err(refusal) => refused(refusal),
     };
     let words = numbers(&words);
     let figures = format!("{width} {resolution} {columns}");
@@ -588,10 +578,10 @@ fn lay_rows_of(random: &mut Random, table: &mut Table, job: &Job) {
     let lengths = (strip.len(), output.len(), work.len());
     let answer = match lay(&sheet, g, &mut strip, &mut output, &mut work) {
         Ok(totals) => format!(
-            "Laid (record {{ placed = {}; used = {} }})",
+            "Ok (record {{ placed = {}; used = {} }})",
             totals.placed, totals.used
         ),
-        Err(refusal) => refused("NotLaid", refusal),
+        Err(refusal) => refused(refusal),
     };
     let text = lay_text(&sheet);
     let sheet = numbers(&sheet);
@@ -626,11 +616,11 @@ fn retrace_row(random: &mut Random, table: &mut Table) {
         }
     };
     let answer = match retrace(&words) {
-        Ok(None) => String::from("Nowhere"),
+        Ok(None) => String::from("Ok None"),
         Ok(Some((first, second))) => {
-            format!("Twice (record {{ first = {first}; second = {second} }})")
+            format!("Ok (Some (record {{ first = {first}; second = {second} }}))")
         }
-        Err(refusal) => refused("NotTraced", refusal),
+        Err(refusal) => refused(refusal),
     };
     table.row_of(
         "retraces",
@@ -654,8 +644,8 @@ fn read_path_row(random: &mut Random, table: &mut Table) {
     let mut output = vec![9u16; room];
     let before = numbers(&output);
     let answer = match read_path(&path, &mut output) {
-        Ok(words) => format!("Words {words}"),
-        Err(refusal) => refused("NotPath", refusal),
+        Ok(words) => format!("Ok {words}"),
+        Err(refusal) => refused(refusal),
     };
     let path = numbers(&path);
     table.row_of(
@@ -683,8 +673,8 @@ fn write_path_row(random: &mut Random, table: &mut Table) {
     let mut output = vec![9u8; room];
     let before = numbers(&output);
     let answer = match write_path(&words, &mut output) {
-        Ok(bytes) => format!("Written {bytes}"),
-        Err(refusal) => refused("NotWritten", refusal),
+        Ok(bytes) => format!("Ok {bytes}"),
+        Err(refusal) => refused(refusal),
     };
     let words = numbers(&words);
     table.row_of(
