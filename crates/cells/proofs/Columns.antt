@@ -1,7 +1,7 @@
 -- The runs of all columns, counted and stored column by column: what is left to count and to store gives the whole, and at the end
 -- nothing is left.
 -- Assumes nothing.
-use mathlib.Core.Path.{◌≡◌, refl, ap, sym, subst, ◌∙◌}
+use mathlib.Core.Path.{◌≡◌, refl, ap, sym, ◌∙◌}
 use mathlib.Core.List.{List}
 use Prim.Native.Nat.{ℕ, suc, ◌+◌, ◌-◌, ◌*◌, ◌≤◌, ◌<◌}
 use native.Mathlib.Omega.{arith}
@@ -134,6 +134,3 @@ pub column_put : {o : List ℕ} → Lent o → {t R g w : ℕ} → t ≤ 3 →
 column_put lent {R = R} {g = g} turn keeps wide r {i = i} p s {l = l} {h = h} {n = n} c q =
     putting_next p r s (omega (arith, c.few, length-list_from (pair_at l h) 0 n))
     (column_runs_lem lent R g i turn keeps wide r p.place c) q
-
-pub put_at : {o : List ℕ} {s t R g : ℕ} {out out' : List ℕ} {k : ℕ} → s ≡ t → PutRuns o s R g out out' k → PutRuns o t R g out out' k
-put_at {o} {R = R} {g = g} {out = out} {out' = out'} {k = k} e p = subst (λ (t : ℕ). PutRuns o t R g out out' k) e p

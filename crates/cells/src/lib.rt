@@ -7,11 +7,12 @@ ghost use Rattle.defs.specs.Meaning.Outline.{KeepsOrder};
 ghost use Rattle.defs.specs.Meaning.Turn.{turned, extent_x};
 ghost use Rattle.defs.specs.Computing.Calls.{rows_words};
 ghost use Rattle.outline.specs.Vertex.{Lent, BoundsOf, FrameOf};
+ghost use Rattle.outline.specs.Shape.{shape};
 ghost use Rattle.cells.specs.Put.{PutRuns, Resolution};
 ghost use Rattle.cells.specs.Columns.{pairs, ColumnFits, PutColumn};
 
 use column::Filled;
-use outline::{Bounds, Frame};
+use outline::{Bounds, Turned};
 
 // No runs yet, and no slab looked at.
 fn nothing() -> Filled
@@ -51,13 +52,11 @@ fn put_if_fits(lows: &[u16], highs: &[u16], n: usize, i: u16, out: &mut [u16], k
 }
 
 // The runs of all columns with the gap, three words a run as far as they fit, and how many they are.
-pub fn put_runs(o: &[u16], f: Frame, r: u16, gap: u16, w: u16, out: &mut [u16]) -> usize
-    requires fact_1 { Lent o.now }
-    requires fact_2 { FrameOf o.now f }
-    requires fact_3 { w ≡ extent_x o.now f.turn }
-    requires fact_4 { KeepsOrder (turned o.now f.turn) }
-    requires fact_5 { Resolution r × (gap ≤ 400) }
-    ensures { PutRuns o.now f.turn r gap out.old out.new result }
+pub fn put_runs(o: Turned, r: u16, gap: u16, w: u16, out: &mut [u16]) -> usize
+    requires wide { w ≡ extent_x o.words.now o.frame.turn }
+    requires ordered { KeepsOrder (shape o) }
+    requires limits { Resolution r × (gap ≤ 400) }
+    ensures { PutRuns o.entry.words.now o.entry.frame.turn r gap out.old out.new result }
 {
     let mut h0 = [0u64; numbers::MOST_VERTICES];
     let mut h1 = [0u64; numbers::MOST_VERTICES];
@@ -73,7 +72,7 @@ pub fn put_runs(o: &[u16], f: Frame, r: u16, gap: u16, w: u16, out: &mut [u16]) 
     let mut start = 0;
     while start < reach {
         c = gapcolumn::gap_column(
-            o, f, start, r, gap, w, c.slab, &mut h0, &mut h1, &mut d, &mut g0, &mut g1, &mut lows,
+            o, start, r, gap, w, c.slab, &mut h0, &mut h1, &mut d, &mut g0, &mut g1, &mut lows,
             &mut highs,
         );
         k = put_if_fits(&lows, &highs, c.runs, i, out, k);
@@ -92,5 +91,5 @@ pub fn put_turn(o: &[u16], b: Bounds, t: u16, r: u16, gap: u16, w: u16, out: &mu
     requires fact_5 { Resolution r × (gap ≤ 400) }
     ensures { PutRuns o.now t r gap out.old out.new result }
 {
-    put_runs(o, outline::frame_of(o, b, t), r, gap, w, out)
+    put_runs(Turned::new(o, b, t), r, gap, w, out)
 }

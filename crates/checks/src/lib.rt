@@ -3,16 +3,17 @@
 
 ghost use Rattle.std.specs.Prelude.{◌≡◌, true, false, ◌+◌, ◌*◌, ◌-◌, ◌≤◌, ◌<◌, min, max};
 ghost use Rattle.defs.specs.Meaning.Outline.{sides, edge_at};
-ghost use Rattle.defs.specs.Meaning.Turn.{turned, extent_x};
+ghost use Rattle.defs.specs.Meaning.Turn.{extent_x};
 ghost use Rattle.defs.specs.Computing.Vertices.{read_y};
 ghost use Rattle.defs.specs.Computing.Calls.{q7b, q8b, q9b};
 ghost use Rattle.defs.specs.Computing.Cells.{keeps_orderb, allowedb, ordersb};
-ghost use Rattle.outline.specs.Vertex.{Lent, BoundsOf, FrameOf, Small, edge_of};
+ghost use Rattle.outline.specs.Vertex.{Lent, BoundsOf, Small, edge_of};
+ghost use Rattle.outline.specs.Shape.{shape};
 ghost use Rattle.slabs.specs.Change.{passesb, crossesb, changesb};
 ghost use Rattle.checks.specs.Order.{rowb, turnb, HeightOf, Ends, Outside};
 ghost use Rattle.checks.specs.Says.{bounds_no, Says};
 
-use outline::{Bounds, Frame, Side, Vertex};
+use outline::{Bounds, Side, Turned, Vertex};
 
 // Question 7: an even length of 6 to 128 words.
 pub fn seven(o: &[u16]) -> bool
@@ -112,17 +113,15 @@ fn beside(lo: u16, hi: u16, p: u16, q: u16) -> bool
 
 // Whether e, between heights lo and hi, changes order with edge j, which goes from y = p to y = q. Its x are read only where it is beside e,
 // which few edges are.
-fn changes(o: &[u16], f: Frame, e: Side, lo: u16, hi: u16, j: usize, p: u16, q: u16) -> bool
-    requires fact_1 { Lent o.now }
-    requires fact_2 { FrameOf o.now f }
-    requires fact_3 { Small e.xl e.yl e.xr e.yr }
-    requires fact_4 { (lo ≡ min e.yl e.yr) × (hi ≡ max e.yl e.yr) }
-    requires fact_5 { (j + 1 < sides o.now) × (p ≡ read_y o.now f.turn j) × (q ≡ read_y o.now f.turn (j + 1)) }
-    ensures { result ≡ changesb (edge_of e.xl e.yl e.xr e.yr) (edge_at (turned o.now f.turn) j) }
+fn changes(o: Turned, e: Side, lo: u16, hi: u16, j: usize, p: u16, q: u16) -> bool
+    requires small { Small e.xl e.yl e.xr e.yr }
+    requires heights { (lo ≡ min e.yl e.yr) × (hi ≡ max e.yl e.yr) }
+    requires ends { (j + 1 < sides o.words.now) × (p ≡ read_y o.words.now o.frame.turn j) × (q ≡ read_y o.words.now o.frame.turn (j + 1)) }
+    ensures { result ≡ changesb (edge_of e.xl e.yl e.xr e.yr) (edge_at (shape o.entry) j) }
 {
     if beside(lo, hi, p, q) {
-        let u = outline::x_at(o, f, j);
-        let v = outline::x_at(o, f, j + 1);
+        let u = o.x(j);
+        let v = o.x(j + 1);
         return swaps(
             e,
             outline::side_of(Vertex { x: u, y: p }, Vertex { x: v, y: q }),
@@ -132,19 +131,17 @@ fn changes(o: &[u16], f: Frame, e: Side, lo: u16, hi: u16, j: usize, p: u16, q: 
 }
 
 // Whether an edge changes order with one of the edges before i. Vertex j is at y = p, read in the step before.
-fn row(o: &[u16], f: Frame, e: Side, i: usize) -> bool
-    requires fact_1 { Lent o.now }
-    requires fact_2 { FrameOf o.now f }
-    requires fact_3 { i < sides o.now }
-    requires fact_4 { Small e.xl e.yl e.xr e.yr }
-    ensures { result ≡ rowb (turned o.now f.turn) (edge_of e.xl e.yl e.xr e.yr) i }
+fn row(o: Turned, e: Side, i: usize) -> bool
+    requires within { i < sides o.words.now }
+    requires small { Small e.xl e.yl e.xr e.yr }
+    ensures { result ≡ rowb (shape o.entry) (edge_of e.xl e.yl e.xr e.yr) i }
 {
     let lo = e.yl.min(e.yr);
     let hi = e.yl.max(e.yr);
-    let mut p = outline::y_at(o, f, 0);
+    let mut p = o.y(0);
     for j in 0..i {
-        let q = outline::y_at(o, f, j + 1);
-        if changes(o, f, e, lo, hi, j, p, q) {
+        let q = o.y(j + 1);
+        if changes(o, e, lo, hi, j, p, q) {
             return true;
         }
         p = q;
@@ -152,18 +149,15 @@ fn row(o: &[u16], f: Frame, e: Side, i: usize) -> bool
     false
 }
 
-// Question 10 in the frame's turn: whether no two edges change order. u is vertex i, read in the step before.
-pub fn keeps_order(o: &[u16], f: Frame) -> bool
-    requires fact_1 { Lent o.now }
-    requires fact_2 { FrameOf o.now f }
-    ensures { result ≡ keeps_orderb (turned o.now f.turn) (extent_x o.now f.turn) }
+// Question 10 in a turn: whether no two edges change order. u is vertex i, read in the step before.
+pub fn keeps_order(o: Turned) -> bool
+    ensures { result ≡ keeps_orderb (shape o.entry) (extent_x o.entry.words.now o.entry.frame.turn) }
 {
-    let n = o.len() / 2;
-    let mut u = outline::vertex_at(o, f, 0);
-    for i in 0..n {
-        let v = outline::vertex_at(o, f, outline::next(n, i));
+    let mut u = o.vertex(0);
+    for i in 0..o.sides() {
+        let v = o.vertex(o.next(i));
         let e = outline::side_of(u, v);
-        if row(o, f, e, i) {
+        if row(o, e, i) {
             return false;
         }
         u = v;
@@ -186,7 +180,7 @@ fn turn_keeps(o: &[u16], b: Bounds, mask: u16, t: u16) -> bool
     requires fact_3 { t ≤ 3 }
     ensures { result ≡ turnb o.now mask t }
 {
-    !allows(mask, t) || keeps_order(o, outline::frame_of(o, b, t))
+    !allows(mask, t) || keeps_order(Turned::new(o, b, t))
 }
 
 // Question 10: whether no two edges change order in an allowed turn.

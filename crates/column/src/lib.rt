@@ -5,12 +5,13 @@ ghost use Rattle.std.specs.Prelude.{◌≡◌, ◌+◌, ◌-◌, ◌/◌, ◌≤
 ghost use Rattle.defs.specs.Meaning.Outline.{KeepsOrder};
 ghost use Rattle.defs.specs.Meaning.Turn.{turned};
 ghost use Rattle.outline.specs.Vertex.{Lent, FrameOf};
+ghost use Rattle.outline.specs.Shape.{shape};
 ghost use Rattle.entries.specs.Edges.{AllFit};
 ghost use Rattle.gaps.specs.Gaps.{Room};
 ghost use Rattle.column.specs.Rows.{AddsPart, on_line, Heights, Parted, Working, ColumnOf};
 
 use cuts::Section;
-use outline::Frame;
+use outline::Turned;
 
 // The runs of a column, and the slab that was looked at last.
 #[derive(Clone, Copy, Debug, PartialEq, Eq)]
@@ -79,8 +80,7 @@ fn portion(
 
 // The runs of the column from `from` to `to`. What is loaded of the slab s is used again where the column begins in it.
 pub fn column(
-    o: &[u16],
-    f: Frame,
+    o: Turned,
     from: u16,
     to: u16,
     s: Section,
@@ -92,18 +92,16 @@ pub fn column(
     lows: &mut [u16],
     highs: &mut [u16],
 ) -> Filled
-    requires fact_1 { Lent o.now }
-    requires fact_2 { FrameOf o.now f }
-    requires fact_3 { from ≤ to }
-    requires fact_4 { KeepsOrder (turned o.now f.turn) }
-    requires fact_5 { Working (turned o.now f.turn) s.start s.end s.count s.cut h0.old h1.old w.old g0.old g1.old lows.old highs.old }
-    ensures { ColumnOf (turned o.now f.turn) from to h0.new h1.new w.new lows.new highs.new result.runs result.slab.start result.slab.end result.slab.count result.slab.cut }
+    requires span { from ≤ to }
+    requires ordered { KeepsOrder (shape o) }
+    requires working { Working (shape o) s.start s.end s.count s.cut h0.old h1.old w.old g0.old g1.old lows.old highs.old }
+    ensures { ColumnOf (shape o.entry) from to h0.new h1.new w.new lows.new highs.new result.runs result.slab.start result.slab.end result.slab.count result.slab.cut }
 {
     let mut k = s;
     let mut n = 0;
     let mut a = from;
     while a < to {
-        k = section::held(o, f, a, to, k, h0, h1, w);
+        k = section::held(o, a, to, k, h0, h1, w);
         let e = k.end.min(to);
         n = portion(k, a, e, h0, h1, w, g0, g1, lows, highs, n);
         a = e;

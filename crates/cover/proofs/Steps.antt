@@ -1,6 +1,6 @@
 -- From the tests and the written runs to the step of cover.
 -- Assumes nothing.
-use mathlib.Core.Path.{◌≡◌, sym, ap, subst, ◌∙◌}
+use mathlib.Core.Path.{◌≡◌, sym, ap, ◌∙◌}
 use mathlib.Core.Bool.{Bool, true, false, cond}
 use mathlib.Core.List.{List, [], ◌∷◌, ◌++◌}
 use Prim.Native.Nat.{ℕ, zero, suc, ◌+◌, ◌*◌, ◌/◌, ◌^◌, ◌≤◌, ◌<◌}
@@ -20,12 +20,10 @@ use Rattle.defs.specs.Computing.Cells.{Rows, join_row, stretches, coveredb, piec
 use Rattle.defs.specs.Computing.Calls.{refusal, runs_words, cover_answer, cover_output, CoverStep}
 use Rattle.laws.proofs.Questions.{question_16, question_21}
 use Rattle.geom.proofs.Checks.{keeps_decides}
-use Rattle.outline.specs.declared.Frame.{Frame}
-use Rattle.outline.specs.Vertex.{Lent, FrameOf}
+use Rattle.outline.specs.Vertex.{Lent}
 use Rattle.checks.proofs.Bounded.{lent_of, has_vertex}
 use Rattle.cells.specs.Put.{PutRuns, Resolution}
 use Rattle.geom.proofs.RunWords.{runs_length}
-use Rattle.defs.specs.Computing.Words.{resolutionb, gapb}
 use Rattle.cover.specs.Turn.{turn_no}
 use Rattle.cover.specs.Written.{CoverRuns, Counted}
 use Rattle.cover.proofs.Answers.{passed, some_without, none_without, cover_11, cover_12, cover_runs}
@@ -37,10 +35,10 @@ vertices o t e = has_vertex o (passed o t (sym e)).seven
 pub turn_limit : (o : List ℕ) (t : ℕ) → turn_no o t ≡ 0 → t ≤ 3
 turn_limit o t e = (passed o t (sym e)).nine
 
--- what 16, 21 and 7 to 10 give
-pub lent : {o : List ℕ} {t R g : ℕ} → CoverRuns o t R g → Lent o
-lent {o} {t} c = let p = passed o t c.none_no in lent_of o p.seven p.eight
+pub lent_at : (o : List ℕ) (t : ℕ) → turn_no o t ≡ 0 → Lent o
+lent_at o t e = let p = passed o t (sym e) in lent_of o p.seven p.eight
 
+-- what 16, 21 and 7 to 10 give
 pub keeps : {o : List ℕ} {t R g : ℕ} → CoverRuns o t R g → KeepsOrder (turned o t)
 keeps {o} {t} c = (keeps_decides o t).0 (passed o t c.none_no).ten
 
@@ -49,18 +47,6 @@ in_limits {R = R} c = let b = (question_16 R).0 c.resolution in record { least =
 
 pub gap_limit : {o : List ℕ} {t R g : ℕ} → CoverRuns o t R g → g ≤ most_gap
 gap_limit {g = g} c = (question_21 g).0 c.gap
-
--- the same in the frame's turn
-pub in_frame : {o : List ℕ} {f : Frame} {t R g w h : ℕ} → resolutionb R ≡ true → gapb g ≡ true → turn_no o t ≡ 0 → FrameOf o f → f.turn ≡ t →
-    w ≡ extent_x o t → h ≡ extent_y o t →
-    CoverRuns o f.turn R g × (FrameOf o f × ((w ≡ extent_x o f.turn) × (h ≡ extent_y o f.turn)))
-in_frame {o} resolution gap none frame e ew eh = (
-  record { resolution = resolution; gap = gap; none_no = sym (ap (turn_no o) e ∙ none) },
-  (frame, (ew ∙ ap (extent_x o) (sym e), eh ∙ ap (extent_y o) (sym e))),
-)
-
-pub step_at_lem : {o : List ℕ} {s t R g : ℕ} {out out' : List ℕ} {a : Result ℕ Refusal} → s ≡ t → CoverStep o s R g out a out' → CoverStep o t R g out a out'
-step_at_lem {o} {R = R} {g = g} {out = out} {out' = out'} {a = a} e c = subst (λ (t : ℕ). CoverStep o t R g out a out') e c
 
 words_long : {o : List ℕ} {t R g : ℕ} {out out' : List ℕ} {k : ℕ} → PutRuns o t R g out out' k →
     length (runs_words 0 (piece_runs o t R g)) ≡ 3 * k

@@ -5,10 +5,11 @@ ghost use Rattle.std.specs.Prelude.{◌≡◌, true, ◌<◌};
 ghost use Rattle.defs.specs.Meaning.Outline.{sides};
 ghost use Rattle.defs.specs.Meaning.Turn.{turned};
 ghost use Rattle.outline.specs.Vertex.{Lent, FrameOf};
+ghost use Rattle.outline.specs.Shape.{shape};
 ghost use Rattle.entries.specs.Edges.{AllFit, NextAt, Rising};
 ghost use Rattle.cuts.specs.Cut.{CutAt};
 
-use outline::Frame;
+use outline::Turned;
 
 // The slab that was looked at last, from x = start to x = end, how many edges span it, and where the next slab may end. Empty where
 // start is end. Four words of 16 bits, so that one move copies it: it goes through several calls for each column.
@@ -33,15 +34,13 @@ pub fn none() -> Section
 }
 
 // The end of the slab that begins at a: the next vertex, or `to`.
-pub fn cut(o: &[u16], f: Frame, a: u16, to: u16) -> u16
-    requires fact_1 { Lent o.now }
-    requires fact_2 { FrameOf o.now f }
-    requires fact_3 { a < to }
-    ensures { CutAt (turned o.now f.turn) a (sides o.now) result }
+pub fn cut(o: Turned, a: u16, to: u16) -> u16
+    requires { a < to }
+    ensures { CutAt (shape o.entry) a (sides o.entry.words.now) result }
 {
     let mut r = to;
-    for i in 0..o.len() / 2 {
-        r = entries::nearer(a, outline::x_at(o, f, i), r);
+    for i in 0..o.sides() {
+        r = entries::nearer(a, o.x(i), r);
     }
     r
 }
@@ -61,15 +60,13 @@ pub fn tidy(h0: &[u64], h1: &[u64], w: &[u64], m: usize) -> bool
 }
 
 // Where the slab that begins at a may end, found already if it follows s. It may be to the right of `to`: no vertex lies beyond 16,000.
-pub fn slab_end(o: &[u16], f: Frame, a: u16, to: u16, s: Section) -> u16
-    requires fact_1 { Lent o.now }
-    requires fact_2 { FrameOf o.now f }
-    requires fact_3 { a < to }
-    requires fact_4 { NextAt (turned o.now f.turn) s.end (sides (turned o.now f.turn)) s.cut }
-    ensures { CutAt (turned o.now f.turn) a (sides o.now) result }
+pub fn slab_end(o: Turned, a: u16, to: u16, s: Section) -> u16
+    requires before { a < to }
+    requires next { NextAt (shape o) s.end (sides (shape o)) s.cut }
+    ensures { CutAt (shape o.entry) a (sides o.entry.words.now) result }
 {
     if a == s.end && a < s.cut {
         return s.cut;
     }
-    cut(o, f, a, to.max(numbers::MOST_COORDINATE))
+    cut(o, a, to.max(numbers::MOST_COORDINATE))
 }

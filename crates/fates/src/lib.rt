@@ -76,7 +76,7 @@ pub fn counted(t: Tally, a: Result<Position, Refusal>, right: u32) -> Tally
     requires { Few t }
     ensures { result ≡ tallied t a right }
 {
-    let used = numbers::greater(t.used as u64, right as u64) as u32;
+    let used = t.used.max(right);
     let lower = lower_of(a, right);
     match a {
         Ok(p) => Tally {

@@ -1,8 +1,8 @@
 -- A turn has a run, at every resolution, exactly when all of it taken as one column has one: each cell has a covered unit column,
 -- each unit column lies in a cell, and none is covered past the extent.
 -- Assumes nothing.
-use mathlib.Core.Path.{◌≡◌, subst}
-use mathlib.Core.Bool.{Bool, not}
+use mathlib.Core.Path.{◌≡◌}
+use mathlib.Core.Bool.{not}
 use mathlib.Core.List.{List}
 use Prim.Native.Nat.{ℕ, ◌/◌, ◌≤◌, ◌<◌}
 use native.Mathlib.Omega.{arith}
@@ -64,6 +64,3 @@ module _ (o : List ℕ) (t : ℕ) {w n a b m c : ℕ} {h0 h1 s l h : List ℕ} (
             decides_by (λ z. run_cell R Rpos (omega arith)) (λ p. let q = cell_run R Rpos p in λ z. omega arith)
             (not_decides (eqb_decides n 0));
       }
-
-pub cell_in : {o : List ℕ} {s t : ℕ} {r : Bool} → s ≡ t → HasCell o s r → HasCell o t r
-cell_in {o} {r = r} e h = subst (λ (t : ℕ). HasCell o t r) e h

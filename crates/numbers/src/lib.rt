@@ -1,8 +1,6 @@
-// The limits of document 01, named as in the definitions (defs/specs/Meaning/Limits), and small functions of numbers. That the two
-// agree is proved with each function that uses one.
+// The limits of document 01, named as in the definitions (defs/specs/Meaning/Limits). That the two agree is proved with each function
+// that uses one. No function.
 #![tactic(auto)]
-
-ghost use Rattle.std.specs.Prelude.{◌≡◌, ◌≤◌, min, max};
 
 pub const MOST_VERTICES: usize = 64;
 
@@ -27,34 +25,3 @@ pub const ENTRY_WORDS: usize = 4;
 
 // Runs of one column, with room for one more: runs that do not touch, in at most MOST_COORDINATE rows.
 pub const RUN_ROOM: usize = 8001;
-
-pub fn less(a: u16, b: u16) -> u16
-    ensures { result ≡ min a b }
-{
-    if a < b { a } else { b }
-}
-
-pub fn more(a: u16, b: u16) -> u16
-    ensures { result ≡ max a b }
-{
-    if a < b { b } else { a }
-}
-
-pub fn greater(a: u64, b: u64) -> u64
-    ensures { result ≡ max a b }
-{
-    if a < b { b } else { a }
-}
-
-pub fn wide(x: u16) -> u64
-    ensures { result ≡ x }
-{
-    x as u64
-}
-
-pub fn narrow(x: u64) -> u16
-    requires { x ≤ 65535 }
-    ensures { result ≡ x }
-{
-    x as u16
-}

@@ -8,8 +8,8 @@ use native.Mathlib.Omega.{arith}
 use lib.ListN.{get_or}
 use lib.Dec.{leb}
 use borrow.Author.Tests.{leb-true, leb-false, ne_eqb}
-use Rattle.defs.specs.Meaning.Outline.{vx, vy, sides, after, Edge, edge_at, edge_between, KeepsOrder}
-use Rattle.defs.specs.Meaning.Turn.{turned, extent_x}
+use Rattle.defs.specs.Meaning.Outline.{vx, vy, sides, after, Edge, edge_at, edge_between}
+use Rattle.defs.specs.Meaning.Turn.{turned}
 use Rattle.defs.specs.Computing.Vertices.{least_n, most_n, corner_x, corner_y, distance, read_x, read_y}
 use Rattle.laws.proofs.Vertices.{read_x_lem, read_y_lem}
 use Rattle.geom.proofs.Extent.{sides_turned}
@@ -78,13 +78,6 @@ vertex_from {o} {t} {i} lent turn s across e =
 pub vertex_read : {o : List ℕ} {f : Frame} {i x y : ℕ} → Lent o → FrameOf o f → i < sides o → x ≡ read_x o f.turn i →
     y ≡ read_y o f.turn i → VertexOf o f.turn i x y
 vertex_read lent k s e = vertex_from lent k.turn s (turned_x k s e)
-
--- what is known of turn t, in the frame's words
-pub keeps_in : {o : List ℕ} {s t : ℕ} → Lent o → s ≡ t → KeepsOrder (turned o t) → KeepsOrder (turned o s)
-keeps_in {o} lent e k = subst (λ (t : ℕ). KeepsOrder (turned o t)) (sym e) k
-
-pub extent_in : {o : List ℕ} {s t w : ℕ} → Lent o → s ≡ t → w ≡ extent_x o t → w ≡ extent_x o s
-extent_in {o} lent e h = h ∙ ap (extent_x o) (sym e)
 
 -- the vertex after i, if i is not the last, is vertex i + 1
 pub after_is : (n i : ℕ) → i + 1 < n → i + 1 ≡ after n i

@@ -109,7 +109,7 @@ pub fn frame_of(o: &[u16], b: Bounds, t: u16) -> Frame
     }
 }
 
-// x of vertex i in the frame's turn: how far its word is from the corner.
+// x of vertex i in the frame's turn: how far its word is from the corner. Of any outline, also one that is not within the limits.
 pub fn x_at(o: &[u16], f: Frame, i: usize) -> u16
     requires fact_1 { FrameOf o.now f }
     requires fact_2 { i < sides o.now }
@@ -125,18 +125,6 @@ pub fn y_at(o: &[u16], f: Frame, i: usize) -> u16
     ensures { result ≡ read_y o.now f.turn i }
 {
     f.y.abs_diff(o[2 * i + (1 - f.word as usize)])
-}
-
-// Vertex i of the outline in the frame's turn.
-pub fn vertex_at(o: &[u16], f: Frame, i: usize) -> Vertex
-    requires fact_1 { Lent o.now }
-    requires fact_2 { FrameOf o.now f }
-    requires fact_3 { i < sides o.now }
-    ensures { VertexOf o.now f.turn i result.x result.y }
-{
-    let x = x_at(o, f, i);
-    let y = y_at(o, f, i);
-    Vertex { x, y }
 }
 
 // The vertex after i.
@@ -168,15 +156,74 @@ pub fn side_of(u: Vertex, v: Vertex) -> Side
     }
 }
 
-// Edge i of the outline in the frame's turn.
-pub fn side_at(o: &[u16], f: Frame, i: usize) -> Side
-    requires fact_1 { Lent o.now }
-    requires fact_2 { FrameOf o.now f }
-    requires fact_3 { i < sides o.now }
-    ensures { SideOf o.now f.turn i result.xl result.yl result.xr result.yr }
-{
-    let j = next(o.len() / 2, i);
-    let u = vertex_at(o, f, i);
-    let v = vertex_at(o, f, j);
-    side_of(u, v)
+// An outline read in a turn. No turned outline is written out.
+#[derive(Clone, Copy)]
+pub struct Turned<'a> {
+    pub words: &'a [u16],
+    pub frame: Frame,
+    ghost lent: { Lent words.now },
+    ghost framed: { FrameOf words.now frame },
+}
+
+impl<'a> Turned<'a> {
+    // The outline in turn t, by its bounds.
+    pub fn new(o: &'a [u16], b: Bounds, t: u16) -> Turned<'a>
+        requires lent { Lent o.now }
+        requires bounds { BoundsOf o.now b }
+        requires turn { t ≤ 3 }
+        ensures { (result.words.now ≡ o.now) × (result.frame.turn ≡ t) }
+    {
+        Turned {
+            words: o,
+            frame: frame_of(o, b, t),
+        }
+    }
+
+    // How many vertices, and how many edges, it has.
+    pub fn sides(self) -> usize
+        ensures { result ≡ sides self.entry.words.now }
+    {
+        self.words.len() / 2
+    }
+
+    // The vertex after i.
+    pub fn next(self, i: usize) -> usize
+        requires { i < sides self.words.now }
+        ensures { (result ≡ after (sides self.entry.words.now) i) × (result < sides self.entry.words.now) }
+    {
+        next(self.sides(), i)
+    }
+
+    pub fn x(self, i: usize) -> u16
+        requires { i < sides self.words.now }
+        ensures { result ≡ read_x self.entry.words.now self.entry.frame.turn i }
+    {
+        x_at(self.words, self.frame, i)
+    }
+
+    pub fn y(self, i: usize) -> u16
+        requires { i < sides self.words.now }
+        ensures { result ≡ read_y self.entry.words.now self.entry.frame.turn i }
+    {
+        y_at(self.words, self.frame, i)
+    }
+
+    // Vertex i of the turned outline.
+    pub fn vertex(self, i: usize) -> Vertex
+        requires { i < sides self.words.now }
+        ensures { VertexOf self.entry.words.now self.entry.frame.turn i result.x result.y }
+    {
+        Vertex {
+            x: self.x(i),
+            y: self.y(i),
+        }
+    }
+
+    // Edge i of the turned outline.
+    pub fn side(self, i: usize) -> Side
+        requires { i < sides self.words.now }
+        ensures { SideOf self.entry.words.now self.entry.frame.turn i result.xl result.yl result.xr result.yr }
+    {
+        side_of(self.vertex(i), self.vertex(self.next(i)))
+    }
 }

@@ -3,14 +3,13 @@
 
 ghost use Rattle.std.specs.Prelude.{◌≡◌, ◌+◌, ◌*◌, ◌≤◌, ◌<◌};
 ghost use Rattle.defs.specs.Meaning.Outline.{sides};
-ghost use Rattle.outline.specs.Vertex.{Lent, FrameOf};
 ghost use Rattle.shapes.specs.Points.{PointOf};
 
 use defs::Position;
 use frame::Scene;
 use listed::Outlines;
 use marks::Spot;
-use outline::{Frame, Side};
+use outline::{Side, Turned};
 use svg::Page;
 
 // A vertex of a placed piece, in units.
@@ -35,15 +34,12 @@ fn position_of(entry: &[u16]) -> Option<Position> {
 // A placed piece: its outline is read through the turn of its position, in which it is so long.
 #[derive(Clone, Copy)]
 struct Piece<'a> {
-    outline: &'a [u16],
-    frame: Frame,
+    outline: Turned<'a>,
     long: u16,
     position: Position,
     resolution: u16,
     ordinal: u64,
-    ghost lent: { Lent outline.now },
-    ghost read: { FrameOf outline.now frame },
-    ghost turned: { frame.turn ≡ position.turn },
+    ghost turned: { outline.frame.turn ≡ position.turn },
 }
 
 impl<'a> Piece<'a> {
@@ -56,8 +52,7 @@ impl<'a> Piece<'a> {
         }
         let b = checks::bounds(o).ok()?;
         Some(Piece {
-            outline: o,
-            frame: outline::frame_of(o, b, position.turn),
+            outline: Turned::new(o, b, position.turn),
             long: outline::extent_of(o, b, position.turn).w,
             position,
             resolution,
@@ -79,15 +74,15 @@ impl<'a> Piece<'a> {
 
     // Vertex i: that of document 01's moved piece.
     fn point_at(&self, i: usize) -> Point
-        requires { i < sides self.now.outline.now }
-        ensures { PointOf self.now.outline.now self.now.resolution self.now.position i result.x result.y }
+        requires { i < sides self.now.outline.words.now }
+        ensures { PointOf self.now.outline.words.now self.now.resolution self.now.position i result.x result.y }
     {
-        let v = outline::vertex_at(self.outline, self.frame, i);
+        let v = self.outline.vertex(i);
         self.moved(v.x, v.y)
     }
 
     fn put_points(&self, page: &mut Page) {
-        for i in 0..self.outline.len() / 2 {
+        for i in 0..self.outline.sides() {
             let v = self.point_at(i);
             page.fill(b" %l,-%l", &[100 * u64::from(v.x), 100 * u64::from(v.y)]);
         }
@@ -131,7 +126,7 @@ impl<'a> Piece<'a> {
         page.fill(b"'/>", &[]);
         let part = marks::part_of(self.long);
         // A piece that was placed has runs, and the work buffer has room for them.
-        let count = cover::cover(self.outline, self.position.turn, part, 0, work).unwrap_or(0);
+        let count = cover::cover(self.outline.words, self.position.turn, part, 0, work).unwrap_or(0);
         let runs = work.get(..marks::RUN_WORDS * count as usize).unwrap_or(&[]);
         if let Some(spot) = marks::spot_of(runs, self.long, u64::from(font), self.ordinal) {
             self.put_ordinal(page, spot);
@@ -147,12 +142,12 @@ impl<'a> Piece<'a> {
 
     // Dashes over what the outline draws twice, edge by edge, if it does.
     fn put_dashes(&self, page: &mut Page) {
-        if !matches!(retrace::retrace(self.outline), Ok(Some(_))) {
+        if !matches!(retrace::retrace(self.outline.words), Ok(Some(_))) {
             return;
         }
         page.fill(b"<path class='twice' d='", &[]);
-        for i in 0..self.outline.len() / 2 {
-            let s = stretch::longest_from(self.outline, self.frame, i);
+        for i in 0..self.outline.sides() {
+            let s = stretch::longest_from(self.outline, i);
             self.put_stretch(page, s);
         }
         page.fill(b"'/>\n", &[]);

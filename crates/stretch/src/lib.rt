@@ -3,9 +3,9 @@
 
 ghost use Rattle.std.specs.Prelude.{◌<◌};
 ghost use Rattle.defs.specs.Meaning.Outline.{sides};
-ghost use Rattle.outline.specs.Vertex.{Lent, FrameOf, Small};
+ghost use Rattle.outline.specs.Vertex.{Small};
 
-use outline::{Frame, Side};
+use outline::{Side, Turned};
 
 // The ends of an edge. Points are in order from left to right, and upward at the same x.
 fn start(e: Side) -> (u16, u16) {
@@ -66,18 +66,16 @@ pub fn is_long(s: Side) -> bool {
     start(s) < end(s)
 }
 
-// The longest stretch from the start of edge i, in the frame's turn, that another edge shares. Each stretch that is drawn twice lies in one of
+// The longest stretch from the start of edge i of a turned outline that another edge shares. Each stretch that is drawn twice lies in one of
 // these, since it begins where one of its two edges does.
-pub fn longest_from(o: &[u16], f: Frame, i: usize) -> Side
-    requires lent { Lent o.now }
-    requires frame { FrameOf o.now f }
-    requires edge { i < sides o.now }
+pub fn longest_from(t: Turned, i: usize) -> Side
+    requires { i < sides t.words.now }
 {
-    let e = outline::side_at(o, f, i);
+    let e = t.side(i);
     let mut longest = start_of(e);
-    for j in 0..o.len() / 2 {
+    for j in 0..t.sides() {
         if j != i {
-            let s = from_start(e, outline::side_at(o, f, j));
+            let s = from_start(e, t.side(j));
             if end(longest) < end(s) {
                 longest = s;
             }

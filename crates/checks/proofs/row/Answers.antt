@@ -5,7 +5,7 @@ use Rattle.checks.proofs.Pairs.{none_yet, row_more, row_hit, row_end}
 use Rattle.checks.proofs.row.Goals as goal
 
 pub loop-j-init : goal.loop-j-init
-loop-j-init c = record { none = none_yet _ _; first = c.y_at-p.ensures }
+loop-j-init c = record { none = none_yet _ _; first = c.y-p.ensures }
 
 pub returns-then-changes : goal.returns-then-changes
 returns-then-changes c = sym (row_hit _ _ _ _ c.loop-j-test.true (sym c.changes.ensures ∙ c.if-changes.true))
@@ -13,7 +13,7 @@ returns-then-changes c = sym (row_hit _ _ _ _ c.loop-j-test.true (sym c.changes.
 pub loop-j-preserved : goal.loop-j-preserved
 loop-j-preserved c = record {
   none = row_more _ _ _ c.loop-j.invariant.none (sym c.changes.ensures ∙ c.if-changes.false);
-  first = c.y_at-q.ensures;
+  first = c.y-q.ensures;
 }
 
 pub returns : goal.returns

@@ -9,18 +9,18 @@ use borrow.Author.Rules.{rules}
 use Rattle.column.proofs.column.Goals as goal
 
 pub loop-a-init : goal.loop-a-init
-loop-a-init c = record { from = search rules; to = search rules; working = c.requires.fact_5; long = search rules; high_long = search rules; adds = units_none _ _ _ _ }
+loop-a-init c = record { from = search rules; to = search rules; working = c.requires.working; long = search rules; high_long = search rules; adds = units_none _ _ _ _ }
 
 pub portion-n-requires-clause-fact_1 : goal.portion-n-requires-clause-fact_1
 portion-n-requires-clause-fact_1 c =
     let b = c.loop-a.invariant.working.buffers in
-    held_fit _ _ c.requires.fact_1 c.held-k.ensures (omega (arith, b.left)) (omega (arith, b.right)) (omega (arith, b.wide))
+    held_fit _ _ c.args.o.lent c.held-k.ensures (omega (arith, b.left)) (omega (arith, b.right)) (omega (arith, b.wide))
 
 pub portion-n-requires-clause-fact_4 : goal.portion-n-requires-clause-fact_4
 portion-n-requires-clause-fact_4 c =
     let p = c.requires in
     let i = c.loop-a.invariant in
-    room_units p.fact_5.buffers i.adds (row_limit p.fact_1 _ p.fact_2.turn p.fact_4 _ _) i.long i.high_long
+    room_units p.working.buffers i.adds (row_limit c.args.o.lent _ c.args.o.framed.turn p.ordered _ _) i.long i.high_long
 
 pub loop-a-preserved : goal.loop-a-preserved
 loop-a-preserved c =
@@ -33,7 +33,7 @@ loop-a-preserved c =
       working = working_on i.working k (omega arith) (omega arith) (omega arith) (omega arith) (omega arith) (omega arith) (omega arith);
       long = omega (arith, i.long);
       high_long = omega (arith, i.high_long);
-      adds = units_more p.fact_1 _ p.fact_2.turn p.fact_4 _ i.from
+      adds = units_more c.args.o.lent _ c.args.o.framed.turn p.ordered _ i.from
           (part_neat k.kept.neat k.from (omega (arith, c.min-e.ensures, k.to, c.loop-a-test.true)) (omega (arith, c.min-e.ensures)))
           i.adds (c.portion-n.ensures.rows _ k.kept);
     }
@@ -42,7 +42,7 @@ pub returns : goal.returns
 returns c =
     let p = c.requires in
     let i = c.loop-a.invariant in
-    column_of_lem p.fact_5.buffers
-    (units_end p.fact_1 _ p.fact_2.turn p.fact_4 _ _ _ i.adds (omega arith))
-    (row_limit p.fact_1 _ p.fact_2.turn p.fact_4 _ _)
+    column_of_lem p.working.buffers
+    (units_end c.args.o.lent _ c.args.o.framed.turn p.ordered _ _ _ i.adds (omega arith))
+    (row_limit c.args.o.lent _ c.args.o.framed.turn p.ordered _ _)
     i.long i.high_long i.working.kept i.working.next

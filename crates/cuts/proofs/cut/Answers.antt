@@ -6,10 +6,10 @@ use Rattle.outline.proofs.Vertices.{turned_x}
 use Rattle.cuts.proofs.cut.Goals as goal
 
 pub loop-i-init : goal.loop-i-init
-loop-i-init c = cut_none _ _ _ c.requires.fact_3
+loop-i-init c = cut_none _ _ _ c.requires
 
 pub loop-i-preserved : goal.loop-i-preserved
-loop-i-preserved c = cut_more c.loop-i.invariant (turned_x c.requires.fact_2 (omega arith) c.x_at.ensures) c.nearer-r.ensures
+loop-i-preserved c = cut_more c.loop-i.invariant (turned_x c.args.o.framed (omega arith) c.x.ensures) c.nearer-r.ensures
 
 pub returns : goal.returns
 returns c = cut_end c.loop-i.invariant (omega arith)

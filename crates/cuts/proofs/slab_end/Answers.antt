@@ -3,4 +3,4 @@ use Rattle.cuts.proofs.Ends.{cut_after}
 use Rattle.cuts.proofs.slab_end.Goals as goal
 
 pub returns-then-a-s-2 : goal.returns-then-a-s-2
-returns-then-a-s-2 c = cut_after _ _ c.if-a-s.true c.requires.fact_4 c.if-a-s-2.true
+returns-then-a-s-2 c = cut_after _ _ c.if-a-s.true c.requires.next c.if-a-s-2.true

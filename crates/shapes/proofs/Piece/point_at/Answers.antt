@@ -6,5 +6,5 @@ use Rattle.shapes.proofs.Piece.point_at.Goals as goal
 
 pub returns : goal.returns
 returns c =
-    let turned : c.args.self.now.frame.turn ≡ c.args.self.now.position.turn = search rules in
-    point_is c.requires turned c.vertex_at-v.ensures c.moved.ensures.across c.moved.ensures.up
+    let turned : c.args.self.now.outline.frame.turn ≡ c.args.self.now.position.turn = search rules in
+    point_is c.requires turned c.vertex-v.ensures c.moved.ensures.across c.moved.ensures.up
