@@ -26,10 +26,7 @@ pub struct Tally {
 pub fn fate_of(a: Result<Position, Refusal>) -> Result<Position, u16>
     ensures { result ≡ fate_of a }
 {
-    match a {
-        Ok(p) => Ok(p),
-        Err(r) => Err(r.number),
-    }
+    a.map_err(|r| r.number)
 }
 
 // "Output is four words a piece: 0 or its number, turn, column, height (zeros if refused)."
@@ -38,8 +35,7 @@ pub fn put_entry(e: Entry, out: &mut [u16])
     ensures { out.new ≡ sets out.old (4 * (e.ordinal - 1)) (fate_words e.fate) }
 {
     let at = numbers::ENTRY_WORDS * (e.ordinal as usize - 1);
-    let f = e.fate;
-    match f {
+    match e.fate {
         Ok(p) => freerecords::put_four(out, at, 0, p.turn, p.column, p.height),
         Err(n) => freerecords::put_four(out, at, n, 0, 0, 0),
     }
@@ -76,22 +72,19 @@ pub fn counted(t: Tally, a: Result<Position, Refusal>, right: u32) -> Tally
     requires { Few t }
     ensures { result ≡ tallied t a right }
 {
-    let used = numbers::greater(t.used as u64, right as u64) as u32;
-    let lower = lower_of(a, right);
-    match a {
-        Ok(p) => Tally {
-            ordinal: t.ordinal + 1,
+    let next = Tally {
+        ordinal: t.ordinal + 1,
+        used: t.used.max(right),
+        lower: lower_of(a, right),
+        ..t
+    };
+    if a.is_ok() {
+        Tally {
             placed: t.placed + 1,
-            used,
             second: !t.second,
-            lower,
-        },
-        Err(r) => Tally {
-            ordinal: t.ordinal + 1,
-            placed: t.placed,
-            used,
-            second: t.second,
-            lower,
-        },
+            ..next
+        }
+    } else {
+        next
     }
 }
