@@ -22,13 +22,9 @@ fn open_words(
     requires { length words.old ≡ min (length strip.old / 2) 68102 }
     ensures { OpenBytesStep width resolution columns gap strip.old result strip.new }
 {
-    match open::open(width, resolution, columns, gap, words) {
-        Ok(()) => {
-            bytewords::put_words(words, strip);
-            Ok(())
-        }
-        Err(r) => Err(r),
-    }
+    open::open(width, resolution, columns, gap, words)?;
+    bytewords::put_words(words, strip);
+    Ok(())
 }
 
 // The open call.
@@ -42,7 +38,7 @@ pub fn open_bytes(
     ensures { OpenBytesStep width resolution columns gap strip.old result strip.new }
 {
     let mut words = [0u16; byteput::STRIP_ROOM];
-    let n = byteput::lesser(strip.len() / 2, byteput::STRIP_ROOM);
+    let n = (strip.len() / 2).min(byteput::STRIP_ROOM);
     open_words(width, resolution, columns, gap, &mut words[..n], strip)
 }
 
@@ -61,14 +57,10 @@ fn lay_words(
     ensures { LaidBytes sheet.now gap strip.old output.old (length work.old) result strip.new output.new }
 {
     bytewords::take_words(output, entries);
-    match laying::lay(sheet, gap, words, entries, work) {
-        Ok(t) => {
-            bytewords::put_words(words, strip);
-            bytewords::put_words(entries, output);
-            Ok(t)
-        }
-        Err(r) => Err(r),
-    }
+    let t = laying::lay(sheet, gap, words, entries, work)?;
+    bytewords::put_words(words, strip);
+    bytewords::put_words(entries, output);
+    Ok(t)
 }
 
 // Lends words for strip and output.
@@ -83,8 +75,8 @@ fn lay_with(
 {
     let mut words = [0u16; byteput::STRIP_ROOM];
     let mut entries = [0u16; OUTPUT_ROOM];
-    let n = byteput::lesser(strip.len() / 2, byteput::STRIP_ROOM);
-    let m = byteput::lesser(output.len() / 2, OUTPUT_ROOM);
+    let n = (strip.len() / 2).min(byteput::STRIP_ROOM);
+    let m = (output.len() / 2).min(OUTPUT_ROOM);
     lay_words(
         sheet,
         gap,
@@ -96,33 +88,20 @@ fn lay_with(
     )
 }
 
-// Lends a small work buffer.
-fn lay_small(
+// Lends a work buffer of at most `ROOM` words, where no more of them are used.
+fn lay_in<const ROOM: usize>(
     sheet: &[u8],
     gap: u16,
     strip: &mut [u8],
     output: &mut [u8],
     room: usize,
 ) -> Result<Totals, Refusal>
-    requires { room ≤ 9000 }
+    requires fact_1 { min room ROOM ≡ min room most_work }
+    requires fact_2 { ROOM ≤ most_work }
     ensures { LaidBytes sheet.now gap strip.old output.old (min room most_work) result strip.new output.new }
 {
-    let mut work = [0u16; byteput::SMALL_WORK];
-    lay_with(sheet, gap, strip, output, &mut work[..room])
-}
-
-// Lends as much of a work buffer as is used of one.
-fn lay_large(
-    sheet: &[u8],
-    gap: u16,
-    strip: &mut [u8],
-    output: &mut [u8],
-    room: usize,
-) -> Result<Totals, Refusal>
-    ensures { LaidBytes sheet.now gap strip.old output.old (min room most_work) result strip.new output.new }
-{
-    let mut work = [0u16; byteput::MOST_WORK];
-    let n = byteput::lesser(room, byteput::MOST_WORK);
+    let mut work = [0u16; ROOM];
+    let n = room.min(ROOM);
     lay_with(sheet, gap, strip, output, &mut work[..n])
 }
 
@@ -144,7 +123,7 @@ pub fn lay_bytes(
     }
     bytewords::clear_words(work);
     if n <= byteput::SMALL_WORK {
-        return lay_small(sheet, gap, strip, output, n);
+        return lay_in::<{ byteput::SMALL_WORK }>(sheet, gap, strip, output, n);
     }
-    lay_large(sheet, gap, strip, output, n)
+    lay_in::<{ byteput::MOST_WORK }>(sheet, gap, strip, output, n)
 }

@@ -2,13 +2,13 @@
 -- the steps of place, ask and commit. Assumes nothing.
 use mathlib.Core.Path.{◌≡◌, refl, sym, ap, ap₂, subst, ◌∙◌}
 use mathlib.Core.Logic.{⊎_elim}
-use mathlib.Core.Bool.{Bool, true, false}
+use mathlib.Core.Bool.{Bool, true, false, false≢true}
 use mathlib.Core.List.{List, ◌++◌}
 use Prim.Native.Nat.{ℕ, ◌*◌, ◌/◌, ◌^◌, ◌≤◌, ◌<◌}
 use native.Mathlib.Omega.{arith}
 use lib.Dec.{leb}
 use lib.ListN.{length, get_or, take, drop}
-use Rattle.std.specs.Prelude.{Result, Ok, Err}
+use Rattle.std.specs.Prelude.{Result, Ok, Err, is_ok}
 use Rattle.defs.specs.declared.Refusal.{Refusal}
 use Rattle.defs.specs.declared.Position.{Position}
 use Rattle.defs.specs.Meaning.Limits.{most_turn}
@@ -191,3 +191,12 @@ commit_step {bs} {os} {work} {p} x q =
       strip_left = x.strip_left;
       work_left = x.cleared_work;
     }
+
+-- what an answer is by its test
+pub was_ok : (a : Result Position Refusal) → is_ok a ≡ true → (p : Position) × (a ≡ Ok p)
+was_ok (Ok p) e = (p, refl)
+was_ok (Err r) e = absurd (false≢true e)
+
+pub was_err : (a : Result Position Refusal) → is_ok a ≡ false → (r : Refusal) × (a ≡ Err r)
+was_err (Ok p) e = absurd (false≢true (sym e))
+was_err (Err r) e = (r, refl)

@@ -21,12 +21,6 @@ pub const SMALL_WORK: usize = 9000;
 // Three words for each run of the outline that has most, with no gap.
 pub const MOST_WORK: usize = 1536000;
 
-pub fn lesser(a: usize, b: usize) -> usize
-    ensures { result ≡ min a b }
-{
-    if a < b { a } else { b }
-}
-
 // Copies strip and outline into words, and calls on these.
 fn put_words(
     strip: &[u8],
@@ -57,12 +51,12 @@ fn put_with(
     ensures { PutWords strip.now outline.now wanted (length work.old) result.placing result.tries words.new }
 {
     let mut corners = [0u16; OUTLINE_ROOM];
-    let m = lesser(outline.len() / 2, OUTLINE_ROOM);
+    let m = (outline.len() / 2).min(OUTLINE_ROOM);
     put_words(strip, outline, wanted, words, &mut corners[..m], work)
 }
 
-// Lends a small work buffer.
-fn put_small(
+// Lends a work buffer of at most `ROOM` words, where no more of them are used.
+fn put_in<const ROOM: usize>(
     strip: &[u8],
     outline: &[u8],
     wanted: Wanted,
@@ -70,26 +64,12 @@ fn put_small(
     room: usize,
 ) -> PlacingTries
     requires fact_1 { length words.old ≡ min (length strip.now / 2) 68102 }
-    requires fact_2 { room ≤ 9000 }
+    requires fact_2 { min room ROOM ≡ min room most_work }
+    requires fact_3 { ROOM ≤ most_work }
     ensures { PutWords strip.now outline.now wanted (min room most_work) result.placing result.tries words.new }
 {
-    let mut work = [0u16; SMALL_WORK];
-    put_with(strip, outline, wanted, words, &mut work[..room])
-}
-
-// Lends as much of a work buffer as is used of one.
-fn put_large(
-    strip: &[u8],
-    outline: &[u8],
-    wanted: Wanted,
-    words: &mut [u16],
-    room: usize,
-) -> PlacingTries
-    requires { length words.old ≡ min (length strip.now / 2) 68102 }
-    ensures { PutWords strip.now outline.now wanted (min room most_work) result.placing result.tries words.new }
-{
-    let mut work = [0u16; MOST_WORK];
-    let n = lesser(room, MOST_WORK);
+    let mut work = [0u16; ROOM];
+    let n = room.min(ROOM);
     put_with(strip, outline, wanted, words, &mut work[..n])
 }
 
@@ -114,9 +94,9 @@ fn put_copy(
     }
     bytewords::clear_words(work);
     if n <= SMALL_WORK {
-        return put_small(strip, outline, wanted, words, n);
+        return put_in::<SMALL_WORK>(strip, outline, wanted, words, n);
     }
-    put_large(strip, outline, wanted, words, n)
+    put_in::<MOST_WORK>(strip, outline, wanted, words, n)
 }
 
 // The call on a copy of the strip, and the copy put back.
@@ -131,14 +111,10 @@ fn put_back(
     ensures { PutBack strip.old outline.now wanted work.old result.placing result.tries strip.new work.new }
 {
     let x = put_copy(strip, outline, wanted, words, work);
-    let a = x.placing;
-    match a {
-        Ok(p) => {
-            bytewords::put_words(words, strip);
-            x
-        }
-        Err(r) => x,
+    if x.placing.is_ok() {
+        bytewords::put_words(words, strip);
     }
+    x
 }
 
 // The place call.
@@ -146,7 +122,7 @@ pub fn place_bytes(strip: &mut [u8], outline: &[u8], mask: u16, work: &mut [u8])
     ensures { PlaceBytesStep strip.old outline.now mask work.old result.placing result.tries strip.new work.new }
 {
     let mut words = [0u16; STRIP_ROOM];
-    let n = lesser(strip.len() / 2, STRIP_ROOM);
+    let n = (strip.len() / 2).min(STRIP_ROOM);
     put_back(strip, outline, Wanted::Best(mask), &mut words[..n], work)
 }
 
@@ -155,7 +131,7 @@ pub fn ask_bytes(strip: &[u8], outline: &[u8], mask: u16, work: &mut [u8]) -> Pl
     ensures { AskBytesStep strip.now outline.now mask work.old result.placing result.tries strip.exit.now work.new }
 {
     let mut words = [0u16; STRIP_ROOM];
-    let n = lesser(strip.len() / 2, STRIP_ROOM);
+    let n = (strip.len() / 2).min(STRIP_ROOM);
     put_copy(strip, outline, Wanted::Best(mask), &mut words[..n], work)
 }
 
@@ -169,8 +145,7 @@ pub fn commit_bytes(
     ensures { CommitBytesStep strip.old outline.now p work.old result strip.new work.new }
 {
     let mut words = [0u16; STRIP_ROOM];
-    let n = lesser(strip.len() / 2, STRIP_ROOM);
+    let n = (strip.len() / 2).min(STRIP_ROOM);
     let x = put_back(strip, outline, Wanted::At(p), &mut words[..n], work);
-    let a = x.placing;
-    commit::committed(a)
+    commit::committed(x.placing)
 }

@@ -2,7 +2,7 @@
 -- Assumes nothing.
 use mathlib.Core.Path.{◌≡◌, refl, sym, ap, ap₂, ◌∙◌}
 use mathlib.Core.List.{List, [], ◌∷◌, ◌++◌}
-use Prim.Native.Nat.{ℕ, suc, ◌+◌, ◌*◌, ◌-◌, ◌/◌, ◌≤◌, ◌<◌}
+use Prim.Native.Nat.{ℕ, ◌+◌, ◌*◌, ◌/◌, ◌≤◌, ◌<◌}
 use native.Mathlib.Omega.{arith}
 use native.Mathlib.Numerals.{add-one}
 use lib.ListN.{length, get_or, take, drop, set, replicate, length-set, length-replicate, drop_of_length-le}
@@ -11,7 +11,7 @@ use Rattle.defs.specs.Meaning.Sheet.{number_at}
 use Rattle.defs.specs.Computing.Calls.{cleared}
 use Rattle.defs.specs.Computing.Sheets.{bytes_of}
 use Rattle.defs.specs.Computing.Bytes.{words_in, word_bytes, bytes_left}
-use Rattle.words.proofs.Storing.{Storing, storing_start, storing_as, storing_one, storing_many, storing_end}
+use Rattle.words.proofs.Storing.{Storing, storing_start, storing_as, storing_many, storing_end}
 use Rattle.bytewords.proofs.Laws.{words_length, bytes_length, word_at, put_all, zero_bytes}
 
 -- i words are read
@@ -69,31 +69,16 @@ module _ {ws bs₀ bs : List ℕ} {i : ℕ} (p : Putting ws bs₀ bs i) where
   unfolding word_bytes
   putting_end room l = storing_end (ap word_bytes (drop_of_length-le ws l)) p.stored ∙ stored_first bs₀ ws room
 
--- i of n bytes are zeros
-pub record Clearing (bs₀ : List ℕ) (n : ℕ) (bs : List ℕ) (i : ℕ) : Type 0 where
-  pub within : i ≤ n
-  pub stored : Storing bs₀ 0 (replicate n 0) bs i (replicate (n - i) 0)
-
 zeros : {m n : ℕ} → m ≡ n → ◌≡◌ {A = List ℕ} (replicate m 0) (replicate n 0)
 zeros e = ap (λ (k : ℕ). replicate k 0) e
 
-pub clearing_start : (bs : List ℕ) (n : ℕ) → Clearing bs n bs 0
-clearing_start bs n =
-    let e : n ≡ n - 0 = omega arith in
-    record { within = omega arith; stored = storing_as (zeros e) (storing_start bs 0 (replicate n 0)) }
-
-module _ {bs₀ bs : List ℕ} {n i : ℕ} (z : Clearing bs₀ n bs i) where
-  pub clearing_next : i < n → Clearing bs₀ n (set bs i 0) (i + 1)
-  clearing_next l =
-      let e : n - i ≡ suc (n - (i + 1)) = omega arith in
-      record { within = omega arith; stored = storing_one refl refl (zeros e) z.stored }
-
-  pub clearing_end : n ≡ length bs₀ / 2 * 2 → n ≤ i → bs ≡ bytes_left bs₀ (cleared (words_in bs₀))
-  clearing_end e l =
-      let ws = cleared (words_in bs₀) in
-      let none : n - i ≡ 0 = omega arith in
-      let twice : n ≡ 2 * length (words_in bs₀) = omega (arith, words_length bs₀) in
-      let long : length ws ≡ length bs₀ / 2 = length-replicate (length (words_in bs₀)) 0 ∙ words_length bs₀ in
-      storing_end (zeros none) z.stored ∙
-      ap (sets bs₀ 0) (zeros twice ∙ sym (zero_bytes (length (words_in bs₀)))) ∙
-      stored_first bs₀ ws (omega arith) ∙ put_all bs₀ ws long
+-- all words are cleared
+pub cleared_is : (bs new : List ℕ) (n : ℕ) → n ≡ length bs / 2 * 2 → new ≡ replicate n 0 →
+    new ++ drop n bs ≡ bytes_left bs (cleared (words_in bs))
+cleared_is bs new n e f =
+    let ws = cleared (words_in bs) in
+    let twice : n ≡ 2 * length (words_in bs) = omega (arith, words_length bs) in
+    let long : length ws ≡ length bs / 2 = length-replicate (length (words_in bs)) 0 ∙ words_length bs in
+    let same : n ≡ 2 * length ws = omega (arith, long) in
+    let zero_words : new ≡ word_bytes ws = f ∙ zeros twice ∙ sym (zero_bytes (length (words_in bs))) in
+    rw (zero_words, same) (put_all bs ws long)

@@ -11,10 +11,8 @@ pub fn take_words(bytes: &[u8], words: &mut [u16])
     ensures { words.new ≡ take (length words.old) (words_in bytes.now) }
 {
     let n = words.len();
-    let mut i = 0;
-    while i < n {
+    for i in 0..n {
         words[i] = fields::number(bytes, 2 * i);
-        i += 1;
     }
 }
 
@@ -24,10 +22,8 @@ pub fn put_words(words: &[u16], bytes: &mut [u8])
     ensures { bytes.new ≡ word_bytes words.now ++ drop (2 * length words.now) bytes.old }
 {
     let n = words.len();
-    let mut i = 0;
-    while i < n {
+    for i in 0..n {
         fields::set_number(bytes, 2 * i, words[i]);
-        i += 1;
     }
 }
 
@@ -36,9 +32,5 @@ pub fn clear_words(bytes: &mut [u8])
     ensures { bytes.new ≡ bytes_left bytes.old (cleared (words_in bytes.old)) }
 {
     let n = bytes.len() / 2 * 2;
-    let mut i = 0;
-    while i < n {
-        bytes[i] = 0;
-        i += 1;
-    }
+    bytes[..n].fill(0);
 }

@@ -5,16 +5,13 @@ ghost use Rattle.std.specs.Prelude.{◌≡◌, true, ◌+◌, ◌*◌, ◌≤◌
 ghost use Rattle.cutlist.specs.Pieces.{PieceAt};
 ghost use Rattle.copies.specs.Copy.{SameVertices, StartsAt};
 
-use reader::Numbers;
+use reader::{Numbers, Reader};
 
 // Whether two vertices are the same.
 fn same_vertex(m: Numbers, n: Numbers) -> bool
     ensures { result ≡ true → (m.first ≡ n.first) × (m.second ≡ n.second) }
 {
-    if m.first != n.first {
-        return false;
-    }
-    m.second == n.second
+    m.first == n.first && m.second == n.second
 }
 
 // Whether the chains from vertex records x and y have the same vertices.
@@ -26,20 +23,11 @@ fn same_vertices(sheet: &[u8], v: usize, x: u16, y: u16) -> bool
     let mut j = y as usize;
     let mut left = numbers::MOST_VERTICES;
     while 0 < i {
-        if left == 0 {
+        if left == 0 || v < i || j == 0 || v < j {
             return false;
         }
-        if v < i {
-            return false;
-        }
-        if j == 0 {
-            return false;
-        }
-        if v < j {
-            return false;
-        }
-        let m = reader::visit(sheet, i);
-        let n = reader::visit(sheet, j);
+        let m = Reader::start(sheet, i).present();
+        let n = Reader::start(sheet, j).present();
         if !same_vertex(m, n) {
             return false;
         }
@@ -57,13 +45,11 @@ pub fn start_of(sheet: &[u8], v: usize, last: usize, at: usize, lower: u32) -> u
     requires fact_2 { PieceAt sheet.now v at }
     ensures { StartsAt sheet.now last at lower result }
 {
-    let p = reader::visit(sheet, v + last);
-    let q = reader::visit(sheet, v + at);
-    if p.second != q.second {
-        return 0;
+    let p = Reader::start(sheet, v + last).present();
+    let q = Reader::start(sheet, v + at).present();
+    if p.second == q.second && same_vertices(sheet, v, p.first, q.first) {
+        lower
+    } else {
+        0
     }
-    if same_vertices(sheet, v, p.first, q.first) {
-        return lower;
-    }
-    0
 }

@@ -38,8 +38,7 @@ pub fn put_entry(e: Entry, out: &mut [u16])
     ensures { out.new ≡ sets out.old (4 * (e.ordinal - 1)) (fate_words e.fate) }
 {
     let at = numbers::ENTRY_WORDS * (e.ordinal as usize - 1);
-    let f = e.fate;
-    match f {
+    match e.fate {
         Fate::Placed(p) => freerecords::put_four(out, at, 0, p.turn, p.column, p.height),
         Fate::Refused(n) => freerecords::put_four(out, at, n, 0, 0, 0),
     }
@@ -76,22 +75,19 @@ pub fn counted(t: Tally, a: Result<Position, Refusal>, right: u32) -> Tally
     requires { Few t }
     ensures { result ≡ tallied t a right }
 {
-    let used = t.used.max(right);
-    let lower = lower_of(a, right);
-    match a {
-        Ok(p) => Tally {
-            ordinal: t.ordinal + 1,
+    let next = Tally {
+        ordinal: t.ordinal + 1,
+        used: t.used.max(right),
+        lower: lower_of(a, right),
+        ..t
+    };
+    if a.is_ok() {
+        Tally {
             placed: t.placed + 1,
-            used,
             second: !t.second,
-            lower,
-        },
-        Err(r) => Tally {
-            ordinal: t.ordinal + 1,
-            placed: t.placed,
-            used,
-            second: t.second,
-            lower,
-        },
+            ..next
+        }
+    } else {
+        next
     }
 }

@@ -4,24 +4,18 @@ use mathlib.Core.Path.{◌≡◌, refl}
 use mathlib.Core.List.{[], ◌∷◌}
 use Prim.Native.Nat.{ℕ, ◌<◌}
 use native.Mathlib.Omega.{arith}
+use Rattle.std.specs.Prelude.{Result, Ok, Err}
+use Rattle.defs.specs.declared.Position.{Position}
+use Rattle.defs.specs.declared.Refusal.{Refusal}
+use Rattle.defs.specs.Answer.{opening, covering, placing, asking, committing, writing}
+use Rattle.pathdefs.specs.Answer.{path_reading}
 use Rattle.packing.specs.Packed.{packed, Four, Wide, Packs, PacksWide, PacksLong}
 
 -- numbers of 16 and of 32 bits are got back from the number that they were packed in
 pub wide : (n a b c : ℕ) → n ≡ packed a b c 0 → a < 65536 → b < 65536 → c < 4294967296 → Wide n a b c
 wide n a b c e la lb lc = record { is = e; first = omega arith; second = omega arith; high = omega arith }
 
--- a refusal, and answers with three values and with two
-pub refused : {n number ordinal : ℕ} → Four n number ordinal 0 0 → Packs n (record { number = number; ordinal = ordinal; values = [] })
-refused f = record { is = omega (arith, f.is); number = f.first; ordinal = λ _. f.second; values = refl }
-
-pub refused_wide : {n number ordinal : ℕ} → Four n number ordinal 0 0 →
-    PacksWide n (record { number = number; ordinal = ordinal; values = [] })
-refused_wide f = record { is = f.is; number = f.first; ordinal = λ _. f.second; values = refl }
-
-pub refused_long : {n number ordinal : ℕ} → Four n number ordinal 0 0 →
-    PacksLong n (record { number = number; ordinal = ordinal; values = [] })
-refused_long f = record { is = omega (arith, f.is); number = f.first; ordinal = λ _. f.second; values = refl }
-
+-- answers with three values and with two
 pub three_values : {n a b c : ℕ} → Four n 0 a b c → Packs n (record { number = 0; ordinal = 0; values = a ∷ b ∷ c ∷ [] })
 three_values f =
     record {
@@ -60,3 +54,20 @@ one_and_wide w =
       ordinal = λ not-0. absurd (not-0 refl);
       values = rw (w.second, w.high);
     }
+
+-- calls that grant the same have the same bits
+pub as_asking : {n : ℕ} (a : Result Position Refusal) → Packs n (placing a) → Packs n (asking a)
+as_asking (Ok p) x = x
+as_asking (Err r) x = x
+
+pub as_committing : {n : ℕ} (a : Result Unit Refusal) → Packs n (opening a) → Packs n (committing a)
+as_committing (Ok u) x = x
+as_committing (Err r) x = x
+
+pub as_writing : {n : ℕ} (a : Result ℕ Refusal) → PacksWide n (covering a) → PacksWide n (writing a)
+as_writing (Ok k) x = x
+as_writing (Err r) x = x
+
+pub as_path_reading : {n : ℕ} (a : Result ℕ Refusal) → PacksWide n (covering a) → PacksWide n (path_reading a)
+as_path_reading (Ok k) x = x
+as_path_reading (Err r) x = x

@@ -1,9 +1,11 @@
 // An answer of several numbers in one of 64 bits.
 #![tactic(auto)]
 
-ghost use Rattle.defs.specs.Answer.{opening, covering, placing, asking, committing, reading, writing, laying, retracing};
-ghost use Rattle.pathdefs.specs.Answer.{path_reading};
+ghost use Rattle.std.specs.Prelude.{ℕ, Result, Ok, Err};
+ghost use Rattle.defs.specs.declared.Refusal.{Refusal};
+ghost use Rattle.defs.specs.Answer.{opening, covering, placing, reading, laying, retracing};
 ghost use Rattle.packing.specs.Packed.{Four, Packs, PacksLong, PacksWide, Wide};
+ghost use Rattle.packing.specs.Refused.{refused, refused_wide, refused_long};
 
 use defs::{EdgePair, Figures, Position, Refusal, Totals};
 
@@ -26,81 +28,91 @@ fn pack_refusal(f: Refusal) -> u64
     pack(f.number, f.ordinal, 0, 0)
 }
 
-pub fn pack_opening(a: Result<(), Refusal>) -> u64
-    ensures { Packs result (opening a) }
-{
-    match a {
-        Ok(()) => 0,
-        Err(f) => pack_refusal(f),
+// What a call grants: its bits, where the number 0 stands in the low ones. A refusal has the same bits for every call.
+pub trait Granted {
+    ghost packs: { ℕ → Result Self Refusal → Type 0 };
+
+    fn bits(self) -> u64
+        ensures { packs result (Ok self) };
+
+    ghost refused: { (n : ℕ) (r : Refusal) → Four n r.number r.ordinal 0 0 → packs n (Err r) };
+}
+
+// Nothing.
+impl Granted for () {
+    ghost packs = { λ n a. Packs n (opening a) };
+
+    ghost refused = { λ n r f. refused f };
+
+    fn bits(self) -> u64 {
+        pack(0, 0, 0, 0)
     }
 }
 
-pub fn pack_covering(a: Result<u32, Refusal>) -> u64
-    ensures { PacksWide result (covering a) }
-{
-    match a {
-        Ok(n) => pack_wide(0, n),
-        Err(f) => pack_refusal(f),
+// A number of 32 bits: runs, bytes or words.
+impl Granted for u32 {
+    ghost packs = { λ n a. PacksWide n (covering a) };
+
+    ghost refused = { λ n r f. refused_wide f };
+
+    fn bits(self) -> u64 {
+        pack_wide(0, self)
     }
 }
 
-pub fn pack_placing(a: Result<Position, Refusal>) -> u64
-    ensures { Packs result (placing a) }
-{
-    match a {
-        Ok(p) => pack(0, p.turn, p.column, p.height),
-        Err(f) => pack_refusal(f),
+// Turn, column, height.
+impl Granted for Position {
+    ghost packs = { λ n a. Packs n (placing a) };
+
+    ghost refused = { λ n r f. refused f };
+
+    fn bits(self) -> u64 {
+        pack(0, self.turn, self.column, self.height)
     }
 }
 
-pub fn pack_asking(a: Result<Position, Refusal>) -> u64
-    ensures { Packs result (asking a) }
-{
-    pack_placing(a)
-}
+// W, R and N.
+impl Granted for Figures {
+    ghost packs = { λ n a. Packs n (reading a) };
 
-pub fn pack_committing(a: Result<(), Refusal>) -> u64
-    ensures { Packs result (committing a) }
-{
-    pack_opening(a)
-}
+    ghost refused = { λ n r f. refused f };
 
-pub fn pack_reading(a: Result<Figures, Refusal>) -> u64
-    ensures { Packs result (reading a) }
-{
-    match a {
-        Ok(f) => pack(0, f.width, f.resolution, f.columns),
-        Err(f) => pack_refusal(f),
+    fn bits(self) -> u64 {
+        pack(0, self.width, self.resolution, self.columns)
     }
 }
 
-pub fn pack_writing(a: Result<u32, Refusal>) -> u64
-    ensures { PacksWide result (writing a) }
-{
-    pack_covering(a)
-}
+// Pieces placed, used length.
+impl Granted for Totals {
+    ghost packs = { λ n a. PacksLong n (laying a) };
 
-pub fn pack_laying(a: Result<Totals, Refusal>) -> u64
-    ensures { PacksLong result (laying a) }
-{
-    match a {
-        Ok(t) => pack_wide(t.placed, t.used),
-        Err(f) => pack_refusal(f),
+    ghost refused = { λ n r f. refused_long f };
+
+    fn bits(self) -> u64 {
+        pack_wide(self.placed, self.used)
     }
 }
 
-pub fn pack_retracing(a: Result<Option<EdgePair>, Refusal>) -> u64
-    ensures { Packs result (retracing a) }
-{
-    match a {
-        Ok(None) => 0,
-        Ok(Some(p)) => pack(0, p.first, p.second, 0),
-        Err(f) => pack_refusal(f),
+// The numbers of two edges, 0 and 0 for none.
+impl Granted for Option<EdgePair> {
+    ghost packs = { λ n a. Packs n (retracing a) };
+
+    ghost refused = { λ n r f. refused f };
+
+    fn bits(self) -> u64 {
+        match self {
+            None => 0,
+            Some(p) => pack(0, p.first, p.second, 0),
+        }
     }
 }
 
-pub fn pack_path_reading(a: Result<u32, Refusal>) -> u64
-    ensures { PacksWide result (path_reading a) }
+// An answer in 64 bits.
+pub fn pack_answer<A: Granted>(a: Result<A, Refusal>) -> u64
+    ensures { A.packs result a }
 {
-    pack_covering(a)
+    match a {
+        Ok(g) => g.bits(),
+        Err(r) => pack_refusal(r),
+    }
 }

@@ -3,6 +3,7 @@ use mathlib.Core.Path.{◌≡◌, refl, sym, ◌∙◌}
 use mathlib.Core.List.{List}
 use Prim.Native.Nat.{ℕ, ◌+◌, ◌*◌, ◌≤◌}
 use lib.ListN.{length, take}
+use Rattle.std.specs.Prelude.{Option, Some, None, IsSome}
 use Rattle.defs.specs.Meaning.Limits.{most_vertices}
 use Rattle.defs.specs.Meaning.Sheet.{sheet_r, sheet_v, piece_number}
 use Rattle.defs.specs.Computing.Test.{ends_by}
@@ -16,7 +17,7 @@ use Rattle.asked.proofs.InOrder.{Ordered}
 use Rattle.sheets.proofs.Asking.{not_zero}
 use Rattle.sheets.proofs.Chains.{Ill}
 use Rattle.reader.specs.Records.{record_number}
-use Rattle.records.specs.Records.{next_vertex, Gathered}
+use Rattle.records.specs.Records.{next_vertex, Gathered, Gathers}
 use Rattle.records.proofs.Copies.{outline_is}
 use Rattle.cutlist.specs.Pieces.{PieceAt}
 use Rattle.cutlist.proofs.Words.{not_ill}
@@ -37,9 +38,14 @@ piece_ordered b at pass =
     record { seven = y.0; eight = y.1; nine = y.2; ten = y.3 }
 
 module _ (b : List ℕ) (at : ℕ) {v f : ℕ} (here : PieceAt b v at) (ef : f ≡ record_number b (v + at) 0) (pass : sheet_piece_no b at ≡ 0) where
-  pub not_broken : Ill (next_vertex b) v most_vertices f → ⊥
+  not_broken : Ill (next_vertex b) v most_vertices f → ⊥
   unfolding sheet_piece_no
   not_broken i = not_ill b at here ef (record { ends = (asked _ _ pass not_zero).0 }) i
+
+  -- so its vertices are found
+  pub found : (w w' : List ℕ) (r : Option ℕ) → Gathers b v f w w' r → IsSome r
+  found w w' (Some k) g = refl
+  found w w' None i = absurd (not_broken i)
 
   module _ {k m : ℕ} {w w' : List ℕ} (words : Gathered b v f w w' k) (l : 128 ≤ length w) (em : m ≡ record_number b (v + at) 1) where
     pub outline : take (2 * k) w' ≡ (piece_of b at).outline

@@ -15,6 +15,7 @@ ghost use Rattle.piece.specs.Pieces.{PlacedBy, PieceLaid};
 use defs::{Entry, Figures, PlacingTries};
 use fates::Tally;
 use outline::Bounds;
+use reader::Reader;
 use search::Way;
 
 // Places the outline on the current table, where no free position has its right edge before `lower`; the other one has it entered
@@ -159,29 +160,24 @@ pub fn lay_piece(
         out.old out.new (piece_of sheet.now at).outline g.width g.resolution g.columns gap q
         (piece_of sheet.now at).mask (length work.old) t result }
 {
-    let piece = reader::visit(sheet, v + at);
+    let piece = Reader::start(sheet, v + at).present();
     let mut words = [0u16; numbers::MOST_WORDS];
-    match records::gather(sheet, v, piece.first, &mut words) {
-        Some(n) => {
-            let e = 2 * n;
-            lay_outline(
-                g,
-                gap,
-                q,
-                t,
-                first,
-                lows,
-                highs,
-                first2,
-                lows2,
-                highs2,
-                &words[..e],
-                piece.second,
-                lower,
-                out,
-                work,
-            )
-        }
-        None => t,
-    }
+    let n = records::gather(sheet, v, piece.first, &mut words).unwrap();
+    lay_outline(
+        g,
+        gap,
+        q,
+        t,
+        first,
+        lows,
+        highs,
+        first2,
+        lows2,
+        highs2,
+        &words[..2 * n],
+        piece.second,
+        lower,
+        out,
+        work,
+    )
 }

@@ -4,27 +4,32 @@ use mathlib.Core.Bool.{false}
 use mathlib.Core.List.{List, [], ◌∷◌, ◌++◌, map}
 use Prim.Native.Nat.{ℕ, ◌+◌, ◌-◌, ◌*◌, ◌≤◌, ◌<◌, max}
 use native.Mathlib.Omega.{arith}
+use native.Mathlib.Decide.{dec_lt}
 use lib.ListN.{length, length-append}
 use lib.Seq.{sets, length-sets}
-use Rattle.std.specs.Prelude.{None, Result, Ok, Err}
+use Rattle.std.specs.Prelude.{Some, None, Result, Ok, Err}
 use Rattle.defs.specs.declared.Position.{Position}
 use Rattle.defs.specs.declared.Refusal.{Refusal}
 use Rattle.defs.specs.declared.Entry.{Entry}
 use Rattle.defs.specs.declared.Fate.TheVariants.{Placed as FatePlaced, Refused as FateRefused}
 use Rattle.defs.specs.Answer.{fate_words}
 use Rattle.defs.specs.Meaning.Placing.{right_edge}
-use Rattle.defs.specs.Meaning.Limits.{most_pieces}
 use Rattle.defs.specs.Meaning.Sheet.{Piece, first_piece}
 use Rattle.defs.specs.Computing.Cells.{Rows}
 use Rattle.defs.specs.Computing.Calls.{place_on}
-use Rattle.defs.specs.Computing.Sheets.{piece_of, piece_records, sheet_pieces, sheet_piece_no, first_no}
+use Rattle.defs.specs.Computing.Sheets.{piece_of, sheet_pieces, sheet_piece_no, first_no}
 use Rattle.defs.specs.Computing.Lay.{fate_of, held_after, entries_from, held_from, placed_in, used_in, entries_words}
 use Rattle.tables.specs.Flat.{table_of}
 use Rattle.tables.proofs.Copies.{NoneBefore, none_before_0}
+use Rattle.defs.specs.Computing.Test.{chain_by}
+use Rattle.laws.proofs.Walks.{chain_zero}
 use Rattle.laws.proofs.Stores.{sets_append}
 use Rattle.sheets.proofs.Asking.{first_none}
-use Rattle.cutlist.specs.Pieces.{PieceAt}
-use Rattle.cutlist.proofs.Along.{Along, next_piece, rest, along_start, along_end, along_here, along_left, along_rest, along_next}
+use Rattle.cutlist.specs.declared.chain.PieceRecords.{PieceRecords}
+use Rattle.cutlist.specs.Pieces.{PieceAt, ChainEnds, next_piece}
+use Rattle.cutlist.specs.Along.{records_left, Along, Starts, Steps}
+use Rattle.cutlist.proofs.Chained.{starts, all, here}
+use Rattle.cutlist.proofs.Lists.{few_left, step_along, step_here}
 use Rattle.fates.specs.declared.Tally.{Tally}
 use Rattle.fates.specs.Fates.{edge_of, one_if, tallied, Few}
 use Rattle.piece.specs.Boards.{held_by, Boards}
@@ -88,10 +93,6 @@ one_most : (a : Result Position Refusal) → one_if a ≤ 1
 one_most (Ok p) = omega arith
 one_most (Err r) = omega arith
 
--- the pieces still to come
-abbrev pub rest_pieces : List ℕ → ℕ → ℕ → List Piece
-rest_pieces b left at = map (piece_of b) (rest b left at)
-
 -- what the whole job comes to: its output, pieces placed, used length and runs
 pub record Whole : Type 0 where
   pub output : List ℕ
@@ -113,41 +114,51 @@ whole_by : {o o' : List ℕ} {p p' u u' : ℕ} {c c' : List (List Rows)} → o �
     ◌≡◌ {A = Whole} (record { output = o; placed = p; used = u; held = c }) (record { output = o'; placed = p'; used = u'; held = c' })
 whole_by a b c d = rw (a, b, c, d) refl
 
--- the pieces before `at` are laid, and the others on top of them give the whole; `last` is the last of them
-pub record Going (b : List ℕ) (v : ℕ) (W R N g Q words : ℕ) (x : Whole) (at last left : ℕ) (t : Tally) (f l h f₂ l₂ h₂ : List ℕ) (out : List ℕ) (long : ℕ) : Type 0 where
-  pub along : Along b v at left
-  pub passes : first_no (sheet_piece_no b) t.ordinal (rest b left at) ≡ None
-  pub place : t.ordinal + left ≡ 201
-  pub placed : t.placed + left ≤ 200
+-- the pieces before those that are left are laid, and the others on top of them give the whole; `last` is the last of them, or the first
+pub record Going (b : List ℕ) (v : ℕ) (W R N g Q words : ℕ) (x : Whole) (s : PieceRecords) (last : ℕ) (t : Tally) (f l h f₂ l₂ h₂ : List ℕ) (out : List ℕ) (long : ℕ) : Type 0 where
+  pub along : Along b v s
+  pub passes : first_no (sheet_piece_no b) t.ordinal (records_left s) ≡ None
+  pub place : t.ordinal + length (records_left s) ≤ 201
+  pub placed : t.placed + length (records_left s) ≤ 200
   pub first : 1 ≤ t.ordinal
   pub boards : Boards t.second f l h f₂ l₂ h₂ W R N g Q
   pub same : length out ≡ long
-  pub room : 4 * (t.ordinal - 1) + 4 * length (rest b left at) ≤ long
+  pub room : 4 * (t.ordinal - 1) + 4 * length (records_left s) ≤ long
   pub whole :
-      whole_from out W R N g Q words t.ordinal (held_by t.second f l h f₂ l₂ h₂ N) (rest_pieces b left at) t.placed t.used ≡ x
-  pub last_here : 0 < at → PieceAt b v last
+      whole_from out W R N g Q words t.ordinal (held_by t.second f l h f₂ l₂ h₂ N) (map (piece_of b) (records_left s)) t.placed t.used ≡ x
+  pub last_here : 0 < length (records_left s) → PieceAt b v last
   pub copies :
       NoneBefore W R N g (held_by t.second f l h f₂ l₂ h₂ N) (piece_of b last).outline (piece_of b last).mask t.lower
 
 abbrev pub started : Tally
 started = record { ordinal = 1; placed = 0; used = 0; second = false; lower = 0 }
 
-pub going_start : {b : List ℕ} {v at : ℕ} {f l h f₂ l₂ h₂ out : List ℕ} {W R N g Q : ℕ} (words : ℕ) →
-    JobReady b v f l h f₂ l₂ h₂ out W R N g Q → at ≡ first_piece b →
-    Going b v W R N g Q words (whole_from out W R N g Q words 1 (table_of f l h N) (sheet_pieces b) 0 0) at at most_pieces started f l h f₂ l₂ h₂ out (length out)
-unfolding piece_records sheet_pieces
-going_start words r e =
+first_here : {b : List ℕ} {v last : ℕ} (n : ℕ) → ChainEnds b v → last ≡ first_piece b →
+    0 < length (chain_by (next_piece b) n last) → PieceAt b v last
+first_here {b} {v} {last} n c e l = go (dec_lt 0 last)
+  where
+    go : Dec (0 < last) → PieceAt b v last
+    go (yes p) = here (starts c e) (λ z. omega (arith, p, z))
+    go (no z) =
+        let none : last ≡ 0 = omega (arith, z) in
+        absurd (omega (arith, l, ap length (ap (chain_by (next_piece b) n) none ∙ chain_zero (next_piece b) n)))
+
+pub going_start : {b : List ℕ} {v last : ℕ} {s : PieceRecords} {f l h f₂ l₂ h₂ out : List ℕ} {W R N g Q : ℕ} (words : ℕ) →
+    JobReady b v f l h f₂ l₂ h₂ out W R N g Q → Starts b v s → last ≡ first_piece b →
+    Going b v W R N g Q words (whole_from out W R N g Q words 1 (table_of f l h N) (sheet_pieces b) 0 0) s last started f l h f₂ l₂ h₂ out (length out)
+unfolding sheet_pieces
+going_start {b} {s = s} words r y e =
     record {
-      along = along_start r.chain e;
-      passes = rw e r.none_no.is;
-      place = refl;
-      placed = omega arith;
+      along = y.along;
+      passes = rw y.all r.none_no.is;
+      place = omega (arith, few_left s);
+      placed = omega (arith, few_left s);
       first = omega arith;
       boards = r.boards;
       same = refl;
-      room = rw e (omega (arith, r.room));
-      whole = rw e refl;
-      last_here = along_here (along_start r.chain e);
+      room = rw y.all (omega (arith, r.room));
+      whole = rw y.all refl;
+      last_here = λ l. first_here 200 r.chain e (rw e (rw (y.all ∙ sym (all b refl)) at l));
       copies = none_before_0 _ _ _ _ _ _ _;
     }
 
@@ -155,17 +166,24 @@ module _
     {b : List ℕ}
     {v W R N g Q words : ℕ}
     {x : Whole}
-    {at last left : ℕ}
+    {r r' : PieceRecords}
+    {at last : ℕ}
     {t : Tally}
     {f l h f₂ l₂ h₂ out : List ℕ}
     {long : ℕ}
-    (s : Going b v W R N g Q words x at last left t f l h f₂ l₂ h₂ out long)
-    (p : 0 < at) where
+    (s : Going b v W R N g Q words x r last t f l h f₂ l₂ h₂ out long)
+    (step : Steps r (Some at) r') where
   abbrev later : List ℕ
-  later = rest b (left - 1) (next_piece b at)
+  later = records_left r'
 
-  rest_is : rest b left at ≡ at ∷ later
-  rest_is = along_rest s.along p
+  rest_is : records_left r ≡ at ∷ later
+  rest_is = step.yields
+
+  pub going_here : PieceAt b v at
+  going_here = step_here s.along step
+
+  pub going_last : PieceAt b v last
+  going_last = s.last_here (omega (arith, ap length rest_is))
 
   pass : (sheet_piece_no b at ≡ 0) × (first_no (sheet_piece_no b) (t.ordinal + 1) later ≡ None)
   pass = (first_none (sheet_piece_no b) t.ordinal at later).0 (ap (first_no (sheet_piece_no b) t.ordinal) (sym rest_is) ∙ s.passes)
@@ -175,10 +193,10 @@ module _
 
   pub going_few : Few t
   going_few =
-      let left = along_left s.along p in
-      record { ordinal = omega (arith, s.place, left); placed = omega (arith, s.placed, left); first = s.first }
+      let long = ap length rest_is in
+      record { ordinal = omega (arith, s.place, long); placed = omega (arith, s.placed, long); first = s.first }
 
-  long_is : length (rest b left at) ≡ 1 + length later
+  long_is : length (records_left r) ≡ 1 + length later
   long_is = omega (arith, ap length rest_is)
 
   pub going_room : 4 * t.ordinal ≤ length out
@@ -221,34 +239,33 @@ module _
         (sym (held_step W R N g Q words k now_held piece (map (piece_of b) later))) ∙
         ap (λ (rs : List ℕ). whole_from out W R N g Q words k now_held (map (piece_of b) rs) t.placed t.used) (sym rest_is) ∙ s.whole
 
-    pub going_next : {at' : ℕ} → at' ≡ next_piece b at → Going b v W R N g Q words x at' at (left - 1) t' f' l' h' f₂' l₂' h₂' out' long
-    going_next e =
-        let left = along_left s.along p in
-        rw (e, y.tally)
+    pub going_next : Going b v W R N g Q words x r' at t' f' l' h' f₂' l₂' h₂' out' long
+    going_next =
+        rw y.tally
         (record {
-          along = along_next s.along p refl;
+          along = step_along s.along step;
           passes = pass.1;
-          place = omega (arith, s.place, left);
-          placed = omega (arith, s.placed, left, one_most answer);
+          place = omega (arith, s.place, long_is);
+          placed = omega (arith, s.placed, long_is, one_most answer);
           first = omega arith;
           boards = y.turns.boards;
           same = ap length y.output ∙ length-sets out (4 * (t.ordinal - 1)) (fate_words (fate_of answer)) ∙ s.same;
           room = omega (arith, s.room, s.first, long_is);
           whole = rw y.turns.held whole_next;
-          last_here = λ _. along_here s.along p;
+          last_here = λ _. going_here;
           copies =
               rw y.turns.held
               (answer_tells W R N g Q words now_held piece.outline piece.mask (piece_ordered b at pass.0)
               s.boards.limits.resolution.at_least (held_table t.second s.boards) answer refl);
         })
 
-pub going_end : {b : List ℕ} {v W R N g Q words : ℕ} {out₀ : List ℕ} {held : List (List Rows)} {at last left : ℕ} {t : Tally}
+pub going_end : {b : List ℕ} {v W R N g Q words : ℕ} {out₀ : List ℕ} {held : List (List Rows)} {r r' : PieceRecords} {last : ℕ} {t : Tally}
     {f l h f₂ l₂ h₂ out : List ℕ} {long : ℕ} →
-    Going b v W R N g Q words (whole_from out₀ W R N g Q words 1 held (sheet_pieces b) 0 0) at last left t f l h f₂ l₂ h₂ out long → at ≡ 0 →
+    Going b v W R N g Q words (whole_from out₀ W R N g Q words 1 held (sheet_pieces b) 0 0) r last t f l h f₂ l₂ h₂ out long → Steps r None r' →
     JobLaid b held f l h f₂ l₂ h₂ out₀ out W R N g Q words t
 unfolding entries_from entries_words held_from placed_in used_in
-going_end {b} {W = W} {R} {N} {g} {Q} {words} {out₀} {held} {left = left} {t = t} {f} {l} {h} {f₂} {l₂} {h₂} {out} s e =
-    let ended = along_end s.along e in
+going_end {b} {W = W} {R} {N} {g} {Q} {words} {out₀} {held} {t = t} {f} {l} {h} {f₂} {l₂} {h₂} {out} s step =
+    let ended = step.yields.0 in
     let w =
     ap (λ (rs : List ℕ). whole_from out W R N g Q words t.ordinal (held_by t.second f l h f₂ l₂ h₂ N) (map (piece_of b) rs) t.placed t.used) (sym ended) ∙ s.whole in
     record {

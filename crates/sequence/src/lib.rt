@@ -5,6 +5,7 @@ ghost use Rattle.std.specs.Prelude.{length};
 ghost use Rattle.tables.specs.Flat.{table_of};
 ghost use Rattle.sequence.specs.Chained.{JobReady, JobLaid};
 
+use cutlist::PieceRecords;
 use defs::Figures;
 use fates::Tally;
 
@@ -29,9 +30,7 @@ pub fn lay_chain(
         first.new lows.new highs.new first2.new lows2.new highs2.new
         out.old out.new g.width g.resolution g.columns gap q (length work.old) result }
 {
-    let mut at = fields::number(sheet, fields::FIRST_PIECE) as usize;
-    let mut last = at;
-    let mut left = records::MOST_PIECES;
+    let mut last = fields::number(sheet, fields::FIRST_PIECE) as usize;
     let mut t = Tally {
         ordinal: 1,
         placed: 0,
@@ -39,14 +38,12 @@ pub fn lay_chain(
         second: false,
         lower: 0,
     };
-    while 0 < at {
+    for at in PieceRecords::of(sheet, v) {
         let lower = copies::start_of(sheet, v, last, at, t.lower);
         t = piece::lay_piece(
             sheet, v, at, lower, g, gap, q, t, first, lows, highs, first2, lows2, highs2, out, work,
         );
         last = at;
-        at = reader::visit(sheet, v + at).next as usize;
-        left -= 1;
     }
     t
 }

@@ -27,7 +27,7 @@ pub extern "C" fn vikelodu_open_4(
     ensures { OpenPacked width resolution columns gap strip.old result strip.new }
 {
     let a = open::open(width, resolution, columns, gap, strip);
-    packing::pack_opening(a)
+    packing::pack_answer(a)
 }
 
 // The place call: turn, column and height after the number 0; and the tries.
@@ -41,9 +41,8 @@ pub extern "C" fn vikelodu_place_5(
     ensures { PlacePacked strip.old outline.now mask work.old result.answer result.tries strip.new work.new }
 {
     let a = place::place(strip, outline, mask, work);
-    let p = a.placing;
     Tried {
-        answer: packing::pack_placing(p),
+        answer: packing::pack_answer(a.placing),
         tries: a.tries,
     }
 }
@@ -59,9 +58,8 @@ pub extern "C" fn vikelodu_ask_5(
     ensures { AskPacked strip.now outline.now mask work.old result.answer result.tries strip.exit.now work.new }
 {
     let a = ask::ask(strip, outline, mask, work);
-    let p = a.placing;
     Tried {
-        answer: packing::pack_asking(p),
+        answer: packing::pack_answer(a.placing),
         tries: a.tries,
     }
 }
@@ -79,12 +77,12 @@ pub extern "C" fn vikelodu_commit(
     ensures { CommitPacked strip.old outline.now (record { turn = turn; column = column; height = height }) work.old result strip.new work.new }
 {
     let p = Position {
-        turn: turn,
-        column: column,
-        height: height,
+        turn,
+        column,
+        height,
     };
     let a = commit::commit(strip, outline, p, work);
-    packing::pack_committing(a)
+    packing::pack_answer(a)
 }
 
 // The cover call: the number of runs in the high 32 bits.
@@ -99,7 +97,7 @@ pub extern "C" fn vikelodu_cover_4(
     ensures { CoverPacked outline.now turn resolution gap output.old result output.new }
 {
     let a = cover::cover(outline, turn, resolution, gap, output);
-    packing::pack_covering(a)
+    packing::pack_answer(a)
 }
 
 // The read call: W, R and N after the number 0.
@@ -108,7 +106,7 @@ pub extern "C" fn vikelodu_read(sheet: &[u8], output: &mut [u16]) -> u64
     ensures { ReadPacked sheet.now output.old result output.new }
 {
     let a = reads::read(sheet, output);
-    packing::pack_reading(a)
+    packing::pack_answer(a)
 }
 
 // The write call: the sheet's size in bytes in the high 32 bits.
@@ -123,7 +121,7 @@ pub extern "C" fn vikelodu_write(
     ensures { WritePacked width resolution columns list.now output.old result output.new }
 {
     let a = writes::write(width, resolution, columns, list, output);
-    packing::pack_writing(a)
+    packing::pack_answer(a)
 }
 
 // The lay call: pieces placed after the number 0; used length in the high 32 bits.
@@ -138,7 +136,7 @@ pub extern "C" fn vikelodu_lay_7(
     ensures { LayPacked sheet.now gap strip.old output.old work.old result strip.new output.new work.new }
 {
     let a = laying::lay(sheet, gap, strip, output, work);
-    packing::pack_laying(a)
+    packing::pack_answer(a)
 }
 
 // The retrace call: the numbers of the first two edges that share a stretch after the number 0, or 0 and 0.
@@ -147,7 +145,7 @@ pub extern "C" fn vikelodu_retrace(outline: &[u16]) -> u64
     ensures { RetracePacked outline.now result }
 {
     let a = retrace::retrace(outline);
-    packing::pack_retracing(a)
+    packing::pack_answer(a)
 }
 
 // The call that reads a path: the outline's words in the high 32 bits.
@@ -156,7 +154,7 @@ pub extern "C" fn vikelodu_read_path(path: &[u8], output: &mut [u16]) -> u64
     ensures { PathReadPacked path.now output.old result output.new }
 {
     let a = readpath::read_path(path, output);
-    packing::pack_path_reading(a)
+    packing::pack_answer(a)
 }
 
 // The call that writes a path: its bytes in the high 32 bits.
@@ -165,7 +163,7 @@ pub extern "C" fn vikelodu_write_path(outline: &[u16], output: &mut [u8]) -> u64
     ensures { PathWritePacked outline.now output.old result output.new }
 {
     let a = writepath::write_path(outline, output);
-    packing::pack_writing(a)
+    packing::pack_answer(a)
 }
 
 // The open call on a strip passed as bytes.
@@ -180,7 +178,7 @@ pub extern "C" fn vikelodu_open_bytes_4(
     ensures { OpenBytesPacked width resolution columns gap strip.old result strip.new }
 {
     let a = bytecalls::open_bytes(width, resolution, columns, gap, strip);
-    packing::pack_opening(a)
+    packing::pack_answer(a)
 }
 
 // The place call on buffers passed as bytes.
@@ -194,9 +192,8 @@ pub extern "C" fn vikelodu_place_bytes_5(
     ensures { PlaceBytesPacked strip.old outline.now mask work.old result.answer result.tries strip.new work.new }
 {
     let a = byteput::place_bytes(strip, outline, mask, work);
-    let p = a.placing;
     Tried {
-        answer: packing::pack_placing(p),
+        answer: packing::pack_answer(a.placing),
         tries: a.tries,
     }
 }
@@ -212,9 +209,8 @@ pub extern "C" fn vikelodu_ask_bytes_5(
     ensures { AskBytesPacked strip.now outline.now mask work.old result.answer result.tries strip.exit.now work.new }
 {
     let a = byteput::ask_bytes(strip, outline, mask, work);
-    let p = a.placing;
     Tried {
-        answer: packing::pack_asking(p),
+        answer: packing::pack_answer(a.placing),
         tries: a.tries,
     }
 }
@@ -232,12 +228,12 @@ pub extern "C" fn vikelodu_commit_bytes(
     ensures { CommitBytesPacked strip.old outline.now (record { turn = turn; column = column; height = height }) work.old result strip.new work.new }
 {
     let p = Position {
-        turn: turn,
-        column: column,
-        height: height,
+        turn,
+        column,
+        height,
     };
     let a = byteput::commit_bytes(strip, outline, p, work);
-    packing::pack_committing(a)
+    packing::pack_answer(a)
 }
 
 // The lay call on buffers passed as bytes.
@@ -252,5 +248,5 @@ pub extern "C" fn vikelodu_lay_bytes_7(
     ensures { LayBytesPacked sheet.now gap strip.old output.old work.old result strip.new output.new work.new }
 {
     let a = bytecalls::lay_bytes(sheet, gap, strip, output, work);
-    packing::pack_laying(a)
+    packing::pack_answer(a)
 }

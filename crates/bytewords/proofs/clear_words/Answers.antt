@@ -1,13 +1,13 @@
--- Zeros are stored one after another. Assumes nothing.
-use mathlib.Core.Path.{refl}
-use Rattle.bytewords.proofs.Loops.{clearing_start, clearing_next, clearing_end}
+-- Zeros fill the words' bytes. Assumes nothing.
+use mathlib.Core.Path.{refl, ap, ◌∙◌}
+use Prim.Native.Nat.{ℕ}
+use native.Mathlib.Omega.{arith}
+use lib.ListN.{replicate}
+use lib.Seq.{length-take-le}
+use Rattle.bytewords.proofs.Loops.{cleared_is}
 use Rattle.bytewords.proofs.clear_words.Goals as goal
 
-pub loop-i-init : goal.loop-i-init
-loop-i-init c = clearing_start _ _
-
-pub loop-i-preserved : goal.loop-i-preserved
-loop-i-preserved c = clearing_next c.loop-i.invariant c.loop-i-test.true
-
 pub returns : goal.returns
-returns c = clearing_end c.loop-i.invariant refl c.loop-i-test.false
+returns c =
+    cleared_is c.args.bytes.now c.fill.new.self _ refl
+    (c.fill.ensures.after (λ y e. e) ∙ ap (λ (n : ℕ). replicate n 0) (length-take-le _ c.args.bytes.now (omega arith)))

@@ -1,10 +1,6 @@
 -- The words still to put, stored where they go, give the whole. Assumes nothing.
-use Prim.Native.Nat.{◌-◌}
 use Rattle.bytewords.proofs.Loops.{Putting}
 use Rattle.bytewords.proofs.put_words.Given as goal
 
 abbrev pub invariant-loop-i : goal.invariant-loop-i
 invariant-loop-i l = Putting l.words l.initial.bytes l.bytes l.i
-
-abbrev pub decreases-loop-i : goal.decreases-loop-i
-decreases-loop-i l = l.n - l.i

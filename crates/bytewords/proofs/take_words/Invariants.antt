@@ -1,10 +1,6 @@
 -- Each word is the number at its two bytes. Assumes nothing.
-use Prim.Native.Nat.{◌-◌}
 use Rattle.bytewords.proofs.Loops.{Taking}
 use Rattle.bytewords.proofs.take_words.Given as goal
 
 abbrev pub invariant-loop-i : goal.invariant-loop-i
 invariant-loop-i l = Taking l.bytes l.initial.words l.words l.i
-
-abbrev pub decreases-loop-i : goal.decreases-loop-i
-decreases-loop-i l = l.n - l.i

@@ -1,10 +1,9 @@
 -- Both chains are followed while their vertices are the same. Assumes nothing.
-use mathlib.Core.Path.{sym, ap, ◌∙◌}
-use Prim.Native.Nat.{ℕ}
+use mathlib.Core.Path.{sym, ◌∙◌}
 use native.Mathlib.Omega.{arith}
 use borrow.Author.Rules.{rules}
 use borrow.Author.Tests.{ltb-true}
-use Rattle.reader.specs.declared.Numbers.{Numbers}
+use Rattle.reader.proofs.Told.{first_read, second_read, next_read}
 use Rattle.copies.proofs.Alike.{alike_start, alike_next, alike_end, differ}
 use Rattle.copies.proofs.same_vertices.Goals as goal
 
@@ -14,28 +13,16 @@ loop-i-init c = (alike_start _ _ _, search rules, search rules)
 pub returns-then-left-eq0 : goal.returns-then-left-eq0
 returns-then-left-eq0 c = differ _ _ _
 
-pub returns-then-v-i : goal.returns-then-v-i
-returns-then-v-i c = differ _ _ _
-
-pub returns-then-j-eq0 : goal.returns-then-j-eq0
-returns-then-j-eq0 c = differ _ _ _
-
-pub returns-then-v-j : goal.returns-then-v-j
-returns-then-v-j c = differ _ _ _
-
 pub returns-then-not-same_vertex : goal.returns-then-not-same_vertex
 returns-then-not-same_vertex c = differ _ _ _
 
 pub loop-i-preserved : goal.loop-i-preserved
 loop-i-preserved c =
-    let same = c.same_vertex.ensures c.if-not-same_vertex.false in
-    let m = c.visit-m.ensures in
-    let n = c.visit-n.ensures in
-    let first : Numbers → ℕ = λ x. x.first in
-    let second : Numbers → ℕ = λ x. x.second in
-    let next : Numbers → ℕ = λ x. x.next in (
+    let same = c.same_vertex.ensures c.if-not-same_vertex.false in (
       alike_next c.loop-i.invariant.0 (omega arith) (omega arith) (omega arith)
-          (sym (ap first m) ∙ same.0 ∙ ap first n) (sym (ap second m) ∙ same.1 ∙ ap second n) (ap next m) (ap next n),
+          (sym (first_read c.start.ensures c.present-m.ensures) ∙ same.0 ∙ first_read c.start-in-loop-i.ensures c.present-n.ensures)
+          (sym (second_read c.start.ensures c.present-m.ensures) ∙ same.1 ∙ second_read c.start-in-loop-i.ensures c.present-n.ensures)
+          (next_read c.start.ensures c.present-m.ensures) (next_read c.start-in-loop-i.ensures c.present-n.ensures),
       search rules,
       search rules,
     )

@@ -1,11 +1,10 @@
 -- Each case of an answer is counted. Assumes nothing.
-use mathlib.Core.Path.{◌≡◌}
-use Prim.Native.Nat.{◌+◌}
-use native.Mathlib.Omega.{arith}
+use mathlib.Core.Path.{sym, ◌∙◌}
+use Rattle.fates.proofs.Edges.{counted_ok, counted_err}
 use Rattle.fates.proofs.counted.Goals as goal
 
-pub returns-in-Ok : goal.returns-in-Ok
-returns-in-Ok c = rw (c.lower_of-lower.ensures, c.in-Ok.is, c.max-used.ensures)
+pub returns-then-is_ok : goal.returns-then-is_ok
+returns-then-is_ok c = rw c.max.ensures (counted_ok c.args.t c.args.right c.args.a c.lower_of.ensures (sym c.is_ok.ensures.value ∙ c.if-is_ok.true))
 
-pub returns-in-Err : goal.returns-in-Err
-returns-in-Err c = let z : c.args.t.placed + 0 ≡ c.args.t.placed = omega arith in rw (c.lower_of-lower.ensures, c.in-Err.is, c.max-used.ensures, z)
+pub returns-else-is_ok : goal.returns-else-is_ok
+returns-else-is_ok c = rw c.max.ensures (counted_err c.args.t c.args.right c.args.a c.lower_of.ensures (sym c.is_ok.ensures.value ∙ c.if-is_ok.false))

@@ -2,4 +2,4 @@
 use Rattle.vikelodu.proofs.vikelodu_lay_7.Goals as goal
 
 pub returns : goal.returns
-returns c = record { answer = _; step = c.lay-a.ensures; packs = c.pack_laying.ensures }
+returns c = record { answer = _; step = c.lay-a.ensures; packs = c.pack_answer.ensures }

@@ -2,4 +2,4 @@
 use Rattle.vikelodu.proofs.vikelodu_open_4.Goals as goal
 
 pub returns : goal.returns
-returns c = record { answer = _; step = c.open-a.ensures; packs = c.pack_opening.ensures }
+returns c = record { answer = _; step = c.open-a.ensures; packs = c.pack_answer.ensures }

@@ -2,4 +2,4 @@
 use Rattle.vikelodu.proofs.vikelodu_place_5.Goals as goal
 
 pub returns : goal.returns
-returns c = record { answer = _; step = c.place-a.ensures; packs = c.pack_placing.ensures }
+returns c = record { answer = _; step = c.place-a.ensures; packs = c.pack_answer.ensures }

@@ -1,8 +1,0 @@
--- Each case of an answer is a fate. Assumes nothing.
-use Rattle.fates.proofs.fate_of.Goals as goal
-
-pub returns-in-Ok : goal.returns-in-Ok
-returns-in-Ok c = rw c.in-Ok.is
-
-pub returns-in-Err : goal.returns-in-Err
-returns-in-Err c = rw c.in-Err.is
