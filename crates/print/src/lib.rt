@@ -1,4 +1,5 @@
-// Bytes and numbers put into a buffer.
+// Bytes and numbers put into a buffer. The buffer and the place in it stay two values, since `Put`, by which the theorem of crate `text` is
+// proved, speaks of both.
 #![tactic(auto)]
 
 ghost use Rattle.std.specs.Prelude.{[], ◌++◌, ◌≡◌, ◌+◌, ◌*◌, ◌%◌, ◌≤◌, ◌<◌, length};
