@@ -1,7 +1,7 @@
 // Questions 7 to 11 of one outline.
 #![tactic(auto)]
 
-ghost use Rattle.std.specs.Prelude.{true, ◌≤◌, ◌<◌};
+ghost use Rattle.std.specs.Prelude.{◌≤◌};
 ghost use Rattle.defs.specs.Meaning.Question.{Question10};
 ghost use Rattle.outline.specs.Vertex.{Lent, BoundsOf};
 ghost use Rattle.checks.specs.Says.{Says};

@@ -25,7 +25,8 @@ use Rattle.laws.proofs.Order.{before_edge, edge_within}
 use Rattle.geom.proofs.Strip.{lt_or_le}
 use Rattle.geom.proofs.RunWords.{runs_length}
 use Rattle.cells.specs.Put.{PutRuns}
-use Rattle.outline.specs.Vertex.{Lent}
+use Rattle.outline.specs.declared.Bounds.{Bounds}
+use Rattle.outline.specs.Vertex.{Lent, BoundsOf}
 use Rattle.tables.specs.Flat.{Laid, table_of}
 use Rattle.tables.specs.Piece.{Stands}
 use Rattle.laws.proofs.First.{first_at}
@@ -38,7 +39,8 @@ use Rattle.walk.proofs.Walks.{tries_are}
 use Rattle.search.specs.declared.Way.{Way}
 use Rattle.search.specs.declared.Way.TheVariants.{Walk as ByWalk, Round}
 use Rattle.search.specs.Searched.{FullBefore, SearchedTo, StepsBy, Looks}
-use Rattle.best.specs.Choice.{ranked, FindsTo, TriesAre, NoneInTurn, OneTurn, Kept}
+use Rattle.best.specs.declared.laid.Board.{Board}
+use Rattle.best.specs.Choice.{ranked, FindsTo, TriesAre, Ready, NoneInTurn, OneTurn, Kept}
 
 -- words written at the start are read there
 stored_front : (l ws : List ℕ) → length ws ≤ length l → take (length ws) (sets l 0 ws) ≡ ws
@@ -177,4 +179,20 @@ pub none_in_turn : {f l h : List ℕ} {W R N g n : ℕ} (o : List ℕ) (mask t :
 none_in_turn o mask t lent Rpos laid few q e y h =
     record {
       none = not_free h ((allowed mask t few).0 (sym e ∙ y)) (keeps_turn o mask t few q e y) (omega (arith, lent.some)) Rpos (table_flat laid);
+    }
+
+-- an outline that passes 7 and 8, on a board
+pub ready : (k : Board) {o : List ℕ} {b : Bounds} → Lent o → BoundsOf o b →
+    Ready k.first.now k.lows.now k.highs.now o k.figures.width k.figures.resolution k.figures.columns k.gap b
+ready k lent bounds =
+    record {
+      lent = lent;
+      bounds = bounds;
+      least = k.limits.resolution.at_least;
+      most = k.limits.resolution.at_most;
+      gap = k.few.0;
+      width = k.limits.width.at_most;
+      columns = k.limits.columns.at_most;
+      count = _;
+      table = k.table;
     }

@@ -1,15 +1,18 @@
 // The best position among the allowed turns.
 #![tactic(auto)]
 
-ghost use Rattle.std.specs.Prelude.{◌≡◌, ◌+◌, ◌≤◌, ◌<◌, length};
+ghost use Rattle.std.specs.Prelude.{◌≡◌, ◌+◌, ◌≤◌, length};
 ghost use Rattle.defs.specs.Meaning.Outline.{KeepsOrder};
 ghost use Rattle.defs.specs.Meaning.Turn.{turned};
 ghost use Rattle.defs.specs.Meaning.Question.{Question10};
-ghost use Rattle.tables.specs.Flat.{table_of};
-ghost use Rattle.tables.proofs.Copies.{NoneBefore};
-ghost use Rattle.best.specs.Choice.{ranked_at, Ready, NoneInTurn, OneTurn, TurnsTo, Kept};
+ghost use Rattle.outline.specs.Vertex.{Lent, BoundsOf};
+ghost use Rattle.best.specs.Choice.{ranked_at};
+ghost use Rattle.best.specs.Of.{NoneBeforeOn, NoneInTurnOn, OneTurnOn, TurnsOn, KeptOn};
 
-use defs::{Figures, Position};
+mod laid;
+
+use defs::Position;
+pub use laid::Board;
 use outline::{Bounds, Extent};
 use ranks::{Ranked, Standing, Tried};
 use search::{Edges, Way};
@@ -35,11 +38,7 @@ fn rank(c: usize, y: u16, t: u16, e: Extent, r: u16) -> Ranked
 // The least free position in turn t, where the runs of the turn fit in the work buffer and none has its right edge before `lower`. One
 // whose right edge is past `limit` may be left out, where the walk does not count its tries.
 fn try_turn(
-    g: Figures,
-    gap: u16,
-    first: &[u16],
-    lows: &[u16],
-    highs: &[u16],
+    board: Board,
     o: &[u16],
     b: Bounds,
     t: u16,
@@ -48,15 +47,17 @@ fn try_turn(
     limit: u32,
     work: &mut [u16],
 ) -> Tried
-    requires ready { Ready first.now lows.now highs.now o.now g.width g.resolution g.columns gap b }
+    requires lent { Lent o.now }
+    requires bounds { BoundsOf o.now b }
     requires turn { t ≤ 3 }
     requires order { KeepsOrder (turned o.now t) }
-    requires none_before { NoneInTurn g.width g.resolution g.columns gap (table_of first.now lows.now highs.now g.columns) o.now t lower }
-    ensures tried { OneTurn g.width g.resolution g.columns gap (table_of first.now lows.now highs.now g.columns) o.now t (length work.old) limit way result }
-    ensures kept { Kept o.now g.resolution gap work.new result.stands.turn result.stands.runs }
+    requires none_before { NoneInTurnOn board o.now t lower }
+    ensures tried { OneTurnOn board.entry o.now t (length work.old) limit way result }
+    ensures kept { KeptOn board.entry o.now work.new result.stands.turn result.stands.runs }
 {
+    let g = board.figures;
     let e = outline::extent_of(o, b, t);
-    let k = cells::put_turn(o, b, t, g.resolution, gap, e.w, work);
+    let k = cells::put_turn(o, b, t, g.resolution, board.gap, e.w, work);
     let untried = Tried {
         most: k,
         best: None,
@@ -67,9 +68,9 @@ fn try_turn(
         return untried;
     }
     let s = Search {
-        first,
-        lows,
-        highs,
+        first: board.first,
+        lows: board.lows,
+        highs: board.highs,
         runs: work,
         columns: g.columns as usize,
         width: g.width,
@@ -85,7 +86,10 @@ fn try_turn(
     };
     let x = search::search(s, way, edges);
     let Some((c, y)) = x.found else {
-        return Tried { tries: x.tries, ..untried };
+        return Tried {
+            tries: x.tries,
+            ..untried
+        };
     };
     Tried {
         best: Some(rank(c, y, t, e, g.resolution)),
@@ -96,11 +100,7 @@ fn try_turn(
 
 // The turns tried so far, and turn t if the mask allows it.
 fn allowed_turn(
-    g: Figures,
-    gap: u16,
-    first: &[u16],
-    lows: &[u16],
-    highs: &[u16],
+    board: Board,
     o: &[u16],
     b: Bounds,
     mask: u16,
@@ -110,32 +110,26 @@ fn allowed_turn(
     work: &mut [u16],
     s: Tried,
 ) -> Tried
-    requires ready { Ready first.now lows.now highs.now o.now g.width g.resolution g.columns gap b }
+    requires lent { Lent o.now }
+    requires bounds { BoundsOf o.now b }
     requires turn { t ≤ 3 }
-    requires ten { Question10 o.now mask
-        × NoneBefore g.width g.resolution g.columns gap (table_of first.now lows.now highs.now g.columns) o.now mask lower }
-    requires so_far { TurnsTo g.width g.resolution g.columns gap (table_of first.now lows.now highs.now g.columns) o.now mask t (length work.old) way s }
-    requires kept { Kept o.now g.resolution gap work.old s.stands.turn s.stands.runs }
-    ensures tried { TurnsTo g.width g.resolution g.columns gap (table_of first.now lows.now highs.now g.columns) o.now mask (t + 1) (length work.old) way result }
-    ensures kept { Kept o.now g.resolution gap work.new result.stands.turn result.stands.runs }
+    requires ten { Question10 o.now mask × NoneBeforeOn board o.now mask lower }
+    requires so_far { TurnsOn board o.now mask t (length work.old) way s }
+    requires kept { KeptOn board o.now work.old s.stands.turn s.stands.runs }
+    ensures tried { TurnsOn board.entry o.now mask (t + 1) (length work.old) way result }
+    ensures kept { KeptOn board.entry o.now work.new result.stands.turn result.stands.runs }
 {
     if !checks::allows(mask, t) {
         return s;
     }
     let limit = ranks::limit_of(s.best);
-    let x = try_turn(
-        g, gap, first, lows, highs, o, b, t, way, lower, limit, work,
-    );
+    let x = try_turn(board, o, b, t, way, lower, limit, work);
     ranks::merge(s, x)
 }
 
 // The best position in the allowed turns, where none has its right edge before `lower`.
 pub fn best_turn(
-    g: Figures,
-    gap: u16,
-    first: &[u16],
-    lows: &[u16],
-    highs: &[u16],
+    board: Board,
     o: &[u16],
     b: Bounds,
     mask: u16,
@@ -143,11 +137,11 @@ pub fn best_turn(
     lower: u32,
     work: &mut [u16],
 ) -> Tried
-    requires ready { Ready first.now lows.now highs.now o.now g.width g.resolution g.columns gap b }
-    requires ten { Question10 o.now mask
-        × NoneBefore g.width g.resolution g.columns gap (table_of first.now lows.now highs.now g.columns) o.now mask lower }
-    ensures tried { TurnsTo g.width g.resolution g.columns gap (table_of first.now lows.now highs.now g.columns) o.now mask 4 (length work.old) way result }
-    ensures kept { Kept o.now g.resolution gap work.new result.stands.turn result.stands.runs }
+    requires lent { Lent o.now }
+    requires bounds { BoundsOf o.now b }
+    requires ten { Question10 o.now mask × NoneBeforeOn board o.now mask lower }
+    ensures tried { TurnsOn board.entry o.now mask 4 (length work.old) way result }
+    ensures kept { KeptOn board.entry o.now work.new result.stands.turn result.stands.runs }
 {
     let mut s = Tried {
         most: 0,
@@ -156,9 +150,7 @@ pub fn best_turn(
         stands: Standing { turn: 4, runs: 0 },
     };
     for t in 0..4 {
-        s = allowed_turn(
-            g, gap, first, lows, highs, o, b, mask, t, way, lower, work, s,
-        );
+        s = allowed_turn(board, o, b, mask, t, way, lower, work, s);
     }
     s
 }

@@ -1,12 +1,12 @@
 // The runs of an outline in a turn, all columns, as words.
 #![tactic(auto)]
 
-ghost use Rattle.std.specs.Prelude.{◌≡◌, ◌+◌, ◌*◌, ◌≤◌, ◌<◌, length};
+ghost use Rattle.std.specs.Prelude.{◌≡◌, ◌*◌, ◌≤◌, length};
 ghost use Rattle.std.proofs.lemmas.List.Edits.{sets};
 ghost use Rattle.defs.specs.Meaning.Outline.{KeepsOrder};
 ghost use Rattle.defs.specs.Meaning.Turn.{turned, extent_x};
 ghost use Rattle.defs.specs.Computing.Calls.{rows_words};
-ghost use Rattle.outline.specs.Vertex.{Lent, BoundsOf, FrameOf};
+ghost use Rattle.outline.specs.Vertex.{Lent, BoundsOf};
 ghost use Rattle.outline.specs.Shape.{shape};
 ghost use Rattle.cells.specs.Put.{PutRuns, Resolution};
 ghost use Rattle.cells.specs.Columns.{pairs, ColumnFits, PutColumn};

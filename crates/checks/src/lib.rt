@@ -1,7 +1,7 @@
 // Questions 7 to 10.
 #![tactic(auto)]
 
-ghost use Rattle.std.specs.Prelude.{◌≡◌, true, false, ◌+◌, ◌*◌, ◌-◌, ◌≤◌, ◌<◌, min, max};
+ghost use Rattle.std.specs.Prelude.{◌≡◌, true, false, ◌+◌, ◌≤◌, ◌<◌, min, max};
 ghost use Rattle.defs.specs.Meaning.Outline.{sides, edge_at};
 ghost use Rattle.defs.specs.Meaning.Turn.{extent_x};
 ghost use Rattle.defs.specs.Computing.Vertices.{read_y};

@@ -1,10 +1,8 @@
 // The runs of one column of an outline in a turn.
 #![tactic(auto)]
 
-ghost use Rattle.std.specs.Prelude.{◌≡◌, ◌+◌, ◌-◌, ◌/◌, ◌≤◌, ◌<◌, length};
+ghost use Rattle.std.specs.Prelude.{◌≡◌, ◌≤◌, ◌<◌, length};
 ghost use Rattle.defs.specs.Meaning.Outline.{KeepsOrder};
-ghost use Rattle.defs.specs.Meaning.Turn.{turned};
-ghost use Rattle.outline.specs.Vertex.{Lent, FrameOf};
 ghost use Rattle.outline.specs.Shape.{shape};
 ghost use Rattle.entries.specs.Edges.{AllFit};
 ghost use Rattle.gaps.specs.Gaps.{Room};

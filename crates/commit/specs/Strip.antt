@@ -1,6 +1,7 @@
 use Rattle.std.specs.Prelude.{Result, Ok, Err}
 use Rattle.defs.specs.declared.Position.{Position}
 use Rattle.defs.specs.declared.Refusal.{Refusal}
+
 -- A commit's answer. Assumes nothing.
 
 -- from the form of place's

@@ -24,7 +24,7 @@ use Rattle.geom.proofs.Checks.{keeps_decides}
 use Rattle.outline.specs.declared.Bounds.{Bounds}
 use Rattle.outline.specs.Vertex.{Lent, BoundsOf}
 use Rattle.checks.proofs.Bounded.{lent_of}
-use Rattle.cells.specs.Put.{PutRuns, Resolution}
+use Rattle.cells.specs.Put.{PutRuns}
 use Rattle.cover.specs.Turn.{turn_no}
 use Rattle.cover.proofs.Answers.{passed, outline_by_turn, some_without, none_without}
 use Rattle.tables.specs.Flat.{Laid, table_of}
@@ -120,9 +120,6 @@ module _ {o : List ℕ} {t : ℕ} (y : TurnPasses o t) where
 
   pub keeps : KeepsOrder (turned o t)
   keeps = (keeps_decides o t).0 (passed o t y.none_no).ten
-
-pub resolution : {f l h f' l' h' : List ℕ} {W R N g Q : ℕ} → Tabled f l h f' l' h' W R N g Q → Resolution R
-resolution tabled = let r = tabled.limits.resolution in record { least = r.at_least; most = r.at_most }
 
 -- a refusal leaves no next table
 pub refused_on : {f l h f' l' h' o : List ℕ} {W R N g Q words number ordinal : ℕ} {p : Position} {a : Result Position Refusal} →

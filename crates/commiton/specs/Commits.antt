@@ -5,6 +5,7 @@ use Rattle.defs.specs.declared.Position.{Position}
 use Rattle.defs.specs.Computing.Calls.{commit_on}
 use Rattle.tables.specs.Flat.{table_of}
 use Rattle.cover.specs.Turn.{turn_no}
+use Rattle.best.specs.declared.laid.Board.{Board}
 use Rattle.position.specs.Table.{NextIf}
 
 -- an outline passes 7 to 10 in turn t
@@ -19,3 +20,7 @@ placed_at p (Err r) = Err r
 pub record CommittedOn (f l h f' l' h' o : List ℕ) (W R N g Q : ℕ) (p : Position) (words : ℕ) (a : Result Position Refusal) : Type 0 where
   pub answer : a ≡ placed_at p (commit_on W R N g Q (table_of f l h N) o p words)
   pub next : NextIf f l h f' l' h' o W R N g Q a
+
+abbrev pub CommittedIn : Board → (f' l' h' o : List ℕ) → Position → ℕ → Result Position Refusal → Type 0
+CommittedIn k f' l' h' o p words a =
+    CommittedOn k.first.now k.lows.now k.highs.now f' l' h' o k.figures.width k.figures.resolution k.figures.columns k.gap k.records p words a

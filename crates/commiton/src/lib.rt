@@ -1,25 +1,21 @@
-// A commit on the runs of a strip: questions 7 to 12 of the position's turn alone, 18 and 14, and the next table with the piece in it. Granted,
+// A commit on a board: questions 7 to 12 of the position's turn alone, 18 and 14, and the next table with the piece in it. Granted,
 // it answers its position, as place does.
 #![tactic(auto)]
 
 ghost use Rattle.std.specs.Prelude.{length};
 ghost use Rattle.outline.specs.Vertex.{BoundsOf};
-ghost use Rattle.position.specs.Table.{Tabled};
-ghost use Rattle.commiton.specs.Commits.{TurnPasses, CommittedOn};
+ghost use Rattle.position.specs.On.{NextRoom};
+ghost use Rattle.commiton.specs.Commits.{TurnPasses, CommittedIn};
 
-use defs::{Figures, Position, Refusal, refused};
+use best::Board;
+use defs::{Position, Refusal, refused};
 use outline::Bounds;
 use ranks::Standing;
 use walk::Search;
 
 // Questions 11, 12, 18 and 14 of an outline that passes 7 to 10 in the position's turn.
 fn commit_runs(
-    g: Figures,
-    gap: u16,
-    q: usize,
-    first: &[u16],
-    lows: &[u16],
-    highs: &[u16],
+    board: Board,
     o: &[u16],
     b: Bounds,
     p: Position,
@@ -28,13 +24,14 @@ fn commit_runs(
     lows2: &mut [u16],
     highs2: &mut [u16],
 ) -> Result<Position, Refusal>
-    requires fact_1 { Tabled first.now lows.now highs.now first2.old lows2.old highs2.old g.width g.resolution g.columns gap q }
-    requires fact_2 { TurnPasses o.now p.turn }
-    requires fact_3 { BoundsOf o.now b }
-    ensures { CommittedOn first.now lows.now highs.now first2.new lows2.new highs2.new o.now g.width g.resolution g.columns gap q p (length work.old) result }
+    requires room { NextRoom first2.old lows2.old highs2.old }
+    requires passes { TurnPasses o.now p.turn }
+    requires bounds { BoundsOf o.now b }
+    ensures { CommittedIn board.entry first2.new lows2.new highs2.new o.now p (length work.old) result }
 {
+    let g = board.figures;
     let e = outline::extent_of(o, b, p.turn);
-    let k = cells::put_turn(o, b, p.turn, g.resolution, gap, e.w, work);
+    let k = cells::put_turn(o, b, p.turn, g.resolution, board.gap, e.w, work);
     if k == 0 {
         return refused(11, 1);
     }
@@ -42,9 +39,9 @@ fn commit_runs(
         return refused(12, 1);
     }
     let s = Search {
-        first,
-        lows,
-        highs,
+        first: board.first,
+        lows: board.lows,
+        highs: board.highs,
         runs: work,
         columns: g.columns as usize,
         width: g.width,
@@ -55,23 +52,16 @@ fn commit_runs(
     if !spot::fits_at(s, p.column as usize, p.height) {
         return refused(18, 0);
     }
-    let d = Standing {
+    let stands = Standing {
         turn: p.turn,
         runs: k,
     };
-    position::enter_at(
-        g, gap, q, first, lows, highs, o, b, p, d, work, first2, lows2, highs2,
-    )
+    position::enter_at(board, o, b, p, stands, work, first2, lows2, highs2)
 }
 
-// Questions 7 to 12, 18 and 14 of an outline at a position; where it is entered, the next table holds the runs after it.
+// Questions 7 to 12, 18 and 14 of an outline at a position; where it is entered, the next table holds the board's runs after it.
 pub fn commit_on(
-    g: Figures,
-    gap: u16,
-    q: usize,
-    first: &[u16],
-    lows: &[u16],
-    highs: &[u16],
+    board: Board,
     o: &[u16],
     p: Position,
     work: &mut [u16],
@@ -79,13 +69,11 @@ pub fn commit_on(
     lows2: &mut [u16],
     highs2: &mut [u16],
 ) -> Result<Position, Refusal>
-    requires { Tabled first.now lows.now highs.now first2.old lows2.old highs2.old g.width g.resolution g.columns gap q }
-    ensures { CommittedOn first.now lows.now highs.now first2.new lows2.new highs2.new o.now g.width g.resolution g.columns gap q p (length work.old) result }
+    requires { NextRoom first2.old lows2.old highs2.old }
+    ensures { CommittedIn board.entry first2.new lows2.new highs2.new o.now p (length work.old) result }
 {
     match cover::order(o, p.turn) {
         Err(n) => refused(n, 1),
-        Ok(b) => commit_runs(
-            g, gap, q, first, lows, highs, o, b, p, work, first2, lows2, highs2,
-        ),
+        Ok(b) => commit_runs(board, o, b, p, work, first2, lows2, highs2),
     }
 }

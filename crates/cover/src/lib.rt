@@ -4,10 +4,9 @@
 ghost use Rattle.std.specs.Prelude.{◌≡◌};
 ghost use Rattle.std.proofs.lemmas.List.Edits.{sets};
 ghost use Rattle.defs.specs.Meaning.Outline.{KeepsOrder};
-ghost use Rattle.defs.specs.Meaning.Turn.{turned, extent_x, extent_y};
+ghost use Rattle.defs.specs.Meaning.Turn.{extent_x, extent_y};
 ghost use Rattle.defs.specs.Computing.Cells.{piece_runs};
 ghost use Rattle.defs.specs.Computing.Calls.{runs_words, CoverStep};
-ghost use Rattle.outline.specs.Vertex.{Lent, FrameOf};
 ghost use Rattle.outline.specs.Shape.{shape};
 ghost use Rattle.checks.specs.Says.{Says};
 ghost use Rattle.cover.specs.Turn.{turn_no};

@@ -3,8 +3,6 @@
 
 ghost use Rattle.std.specs.Prelude.{◌≡◌, true, ◌<◌};
 ghost use Rattle.defs.specs.Meaning.Outline.{sides};
-ghost use Rattle.defs.specs.Meaning.Turn.{turned};
-ghost use Rattle.outline.specs.Vertex.{Lent, FrameOf};
 ghost use Rattle.outline.specs.Shape.{shape};
 ghost use Rattle.entries.specs.Edges.{AllFit, NextAt, Rising};
 ghost use Rattle.cuts.specs.Cut.{CutAt};

@@ -9,7 +9,14 @@ ghost use Rattle.decode.specs.Decodes.{Decodes};
 use striprecords::Shape;
 
 // The chain of column c, its runs taken to the table from t on.
-fn take_runs(s: &[u16], g: Shape, c: usize, t: usize, lows: &mut [u16], highs: &mut [u16]) -> Option<usize>
+fn take_runs(
+    s: &[u16],
+    g: Shape,
+    c: usize,
+    t: usize,
+    lows: &mut [u16],
+    highs: &mut [u16],
+) -> Option<usize>
     requires sized { Sized s.now g }
     requires within { (c < g.columns) × (t ≤ g.records) }
     requires fits { Room s.now g.records c t }
@@ -34,7 +41,13 @@ fn take_runs(s: &[u16], g: Shape, c: usize, t: usize, lows: &mut [u16], highs: &
 }
 
 // All chains.
-fn take_all(s: &[u16], g: Shape, first: &mut [u16], lows: &mut [u16], highs: &mut [u16]) -> Option<usize>
+fn take_all(
+    s: &[u16],
+    g: Shape,
+    first: &mut [u16],
+    lows: &mut [u16],
+    highs: &mut [u16],
+) -> Option<usize>
     requires sized { Sized s.now g }
     requires room { (4097 ≤ length first.old) × (16000 ≤ length lows.old) × (16000 ≤ length highs.old) }
     ensures { Decodes s.now first.new lows.new highs.new result }

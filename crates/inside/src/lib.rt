@@ -4,7 +4,7 @@
 ghost use Rattle.std.specs.Prelude.{◌≡◌, true, ◌≤◌, ◌<◌, length};
 ghost use Rattle.defs.specs.Meaning.Outline.{KeepsOrder};
 ghost use Rattle.defs.specs.Meaning.Turn.{turned, extent_x};
-ghost use Rattle.outline.specs.Vertex.{Lent, BoundsOf, FrameOf};
+ghost use Rattle.outline.specs.Vertex.{Lent, BoundsOf};
 ghost use Rattle.outline.specs.Shape.{shape};
 ghost use Rattle.entries.specs.Edges.{AllFit};
 ghost use Rattle.inside.specs.Cell.{LowestApart, HasCell};

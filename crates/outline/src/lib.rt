@@ -4,7 +4,7 @@
 ghost use Rattle.std.specs.Prelude.{◌≡◌, ◌≤◌, ◌<◌};
 ghost use Rattle.defs.specs.Meaning.Outline.{sides, after, edge_between};
 ghost use Rattle.defs.specs.Meaning.Turn.{extent_x, extent_y};
-ghost use Rattle.defs.specs.Computing.Vertices.{distance, read_x, read_y};
+ghost use Rattle.defs.specs.Computing.Vertices.{read_x, read_y};
 ghost use Rattle.outline.specs.Vertex.{Lent, BoundsOf, FrameOf, VertexOf, SideOf, edge_of};
 
 // The least and the greatest x and y of an outline.

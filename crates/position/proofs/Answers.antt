@@ -34,9 +34,9 @@ use Rattle.search.specs.declared.Way.{Way}
 use Rattle.search.specs.declared.Way.TheVariants.{Walk as ByWalk, Round}
 use Rattle.ranks.specs.declared.Tried.{Tried}
 use Rattle.ranks.specs.declared.Ranked.{Ranked}
-use Rattle.best.specs.Choice.{place_of, Ready, TriesAre, TurnsTo}
+use Rattle.best.specs.Choice.{place_of, TriesAre, TurnsTo}
 use Rattle.best.proofs.Choices.{tries_same}
-use Rattle.position.specs.Table.{Tabled, Enterable, EntersAt, PlacedOn, CountedOn}
+use Rattle.position.specs.Table.{Enterable, EntersAt, PlacedOn, CountedOn}
 
 module _ (W R N g Q : ℕ) (held : List (List Rows)) (o : List ℕ) (mask words : ℕ) where
   -- a "no" before 13, and so no tries
@@ -158,19 +158,3 @@ pub untried_on : {f l h f' l' h' o : List ℕ} {W R N g Q mask words number : �
     a ≡ record { placing = Err (refusal number 1); tries = 0 } → Untried W R N g Q (table_of f l h N) o mask words number →
     CountedOn f l h f' l' h' o W R N g Q mask words way a.placing a.tries
 untried_on way e q = rw e (record { placed = refused_on refl q.0; counted = no_tries way _ q.1 })
-
--- what the search among turns asks
-pub ready : {f l h f' l' h' o : List ℕ} {W R N g Q mask : ℕ} {b : Bounds} → Tabled f l h f' l' h' W R N g Q →
-    Ordered o (q9b mask) mask → BoundsOf o b → Ready f l h o W R N g b
-ready {o = o} t y k =
-    record {
-      lent = lent_of o y.seven y.eight;
-      bounds = k;
-      least = t.limits.resolution.at_least;
-      most = t.limits.resolution.at_most;
-      gap = t.gap;
-      width = t.limits.width.at_most;
-      columns = t.limits.columns.at_most;
-      count = t.count;
-      table = t.table;
-    }

@@ -26,7 +26,24 @@ use Rattle.columnentry.specs.declared.Entry.{Entry}
 use Rattle.columnentry.specs.Columns.{Old, Fits}
 use Rattle.enter.specs.Enters.{Entered, TooMany}
 use Rattle.outline.specs.declared.Bounds.{Bounds}
+use Rattle.best.specs.declared.laid.Board.{Board}
+use Rattle.position.specs.On.{NextRoom}
 use Rattle.position.specs.Table.{Tabled, Enterable, EntersAt}
+
+-- a board's table, and room for the next one
+pub tabled : (k : Board) {f' l' h' : List ℕ} → NextRoom f' l' h' →
+    Tabled k.first.now k.lows.now k.highs.now f' l' h' k.figures.width k.figures.resolution k.figures.columns k.gap k.records
+tabled k room =
+    record {
+      limits = k.limits;
+      gap = k.few.0;
+      records = k.few.1;
+      count = _;
+      table = k.table;
+      firsts = room.firsts;
+      lows = room.lows;
+      highs = room.highs;
+    }
 
 -- runs that are put into the work buffer, and runs that stand there
 pub put_stand : {o : List ℕ} {t R g k : ℕ} {work work' : List ℕ} → PutRuns o t R g work work' k →

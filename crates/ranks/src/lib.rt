@@ -38,7 +38,11 @@ pub struct Tried {
 fn beats(q: Ranked, p: Ranked) -> bool
     ensures { result ≡ beats_by q p }
 {
-    if q.right == p.right { q.top < p.top } else { q.right < p.right }
+    if q.right == p.right {
+        q.top < p.top
+    } else {
+        q.right < p.right
+    }
 }
 
 // The better of two; a tie goes to the first.

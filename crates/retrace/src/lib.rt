@@ -1,10 +1,10 @@
 // The retrace call: whether an outline, as it is lent, goes twice along a stretch, and along which two edges first.
 #![tactic(auto)]
 
-ghost use Rattle.std.specs.Prelude.{◌≡◌, ◌+◌, ◌≤◌, ◌<◌};
+ghost use Rattle.std.specs.Prelude.{◌≡◌, ◌≤◌, ◌<◌};
 ghost use Rattle.defs.specs.Meaning.Outline.{sides};
 ghost use Rattle.outline.specs.Vertex.{Lent, Small, edge_of};
-ghost use Rattle.strokes.specs.Retrace.{rise_alike, level, run_along, stand_along, sharesb, traced, first_pair, RetraceStep};
+ghost use Rattle.strokes.specs.Retrace.{rise_alike, level, run_along, stand_along, sharesb, first_pair, RetraceStep};
 ghost use Rattle.retrace.specs.Edges.{EdgeIs, After};
 
 use defs::{EdgePair, Refusal, refused};

@@ -1,7 +1,7 @@
 // Joining rows into a sorted list of runs that do not touch, the last column of a growing table.
 #![tactic(auto)]
 
-ghost use Rattle.std.specs.Prelude.{◌+◌, ◌≤◌, ◌<◌, length};
+ghost use Rattle.std.specs.Prelude.{◌≤◌, ◌<◌, length};
 ghost use Rattle.runs.specs.Runs.{Apart, Joined, Up, Down, Reaches, Passes};
 
 // The first word from a on that is above v.

@@ -3,8 +3,6 @@
 
 ghost use Rattle.std.specs.Prelude.{◌≡◌, ◌<◌, length};
 ghost use Rattle.defs.specs.Meaning.Outline.{sides, KeepsOrder};
-ghost use Rattle.defs.specs.Meaning.Turn.{turned};
-ghost use Rattle.outline.specs.Vertex.{Lent, FrameOf};
 ghost use Rattle.outline.specs.Shape.{shape};
 ghost use Rattle.cuts.specs.Cut.{CutAt};
 ghost use Rattle.section.specs.Slabs.{Stock, HeldAt};

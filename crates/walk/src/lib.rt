@@ -9,7 +9,6 @@ ghost use Rattle.walk.specs.Of.{WalkedColumnOf, WalkedTurnOf};
 mod sought;
 
 pub use sought::Search;
-
 use tries::Tried;
 
 // What a walk finds, and the tries it made.
@@ -105,7 +104,10 @@ pub fn walk_column(s: Search, c: usize) -> WithTries<Option<u16>>
             }
         }
     }
-    WithTries { found: Some(y), tries }
+    WithTries {
+        found: Some(y),
+        tries,
+    }
 }
 
 // The least free column, the least free height in it, and the tries.
@@ -118,7 +120,10 @@ pub fn walk_turn(s: Search) -> WithTries<Option<(usize, u16)>>
             let x = walk_column(s, c);
             tries += x.tries;
             if let Some(y) = x.found {
-                return WithTries { found: Some((c, y)), tries };
+                return WithTries {
+                    found: Some((c, y)),
+                    tries,
+                };
             }
         }
     }

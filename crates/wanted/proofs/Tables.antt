@@ -9,7 +9,7 @@ use Rattle.std.specs.Prelude.{Result}
 use Rattle.defs.specs.declared.Refusal.{Refusal}
 use Rattle.defs.specs.declared.Position.{Position}
 use Rattle.defs.specs.Meaning.Limits.{leading_words}
-use Rattle.defs.specs.Meaning.Strip.{width_of, resolution_of, columns_of, gap_of}
+use Rattle.defs.specs.Meaning.Strip.{Limits, width_of, resolution_of, columns_of, gap_of}
 use Rattle.defs.specs.Computing.Cells.{Rows}
 use Rattle.defs.specs.Computing.Words.{records_of, columns_runs, written}
 use Rattle.defs.specs.Computing.Search.{entered}
@@ -24,7 +24,7 @@ use Rattle.tables.proofs.Strips.{runs_apart}
 use Rattle.tables.proofs.Written.{Writable, written_left}
 use Rattle.decode.specs.Decodes.{Holds_runs}
 use Rattle.encode.specs.Room.{Room}
-use Rattle.position.specs.Table.{Tabled, Next, NextIf}
+use Rattle.position.specs.Table.{Next, NextIf}
 use Rattle.commiton.specs.Commits.{placed_at}
 use Rattle.wanted.specs.declared.Wanted.{Wanted}
 use Rattle.wanted.specs.declared.Wanted.TheVariants.{Best, At}
@@ -53,19 +53,15 @@ module _ {s f l h : List ℕ} {t : ℕ} (held : Holds_runs s f l h t) where
       laid_of held.flat (λ k b. rw held.table (runs_apart s w k b))
       (λ k y e. (table_of_lem s w).below k y (subst (λ (c : List (List Rows)). In c k y) held.table e))
 
-  pub tabled : {f' l' h' : List ℕ} {q : ℕ} → q ≡ Q → 4097 ≤ length f' → 24001 ≤ length l' → 24001 ≤ length h' → Tabled f l h f' l' h' W R N g q
-  tabled e a b c =
-      let w = formed s held.well_formed in
-      record {
-        limits = w.limits;
-        gap = w.gap;
-        records = omega (arith, w.long.records.at_most);
-        count = t;
-        table = laid;
-        firsts = a;
-        lows = b;
-        highs = c;
-      }
+  -- what a board with the strip's figures and table needs
+  pub limits_of : Limits W R N
+  limits_of = (formed s held.well_formed).limits
+
+  pub few_of : {q : ℕ} → q ≡ Q → (g ≤ 400) × (q ≤ 16000)
+  few_of e = let w = formed s held.well_formed in (w.gap, omega (arith, w.long.records.at_most))
+
+  pub laid_on : Laid f l h W N (get_or f N 0)
+  laid_on = rw held.flat.last laid
 
   -- the words of the strip before its records
   pub leading : leading_words ≤ length s

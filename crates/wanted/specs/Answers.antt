@@ -9,6 +9,7 @@ use Rattle.defs.specs.Computing.Words.{records_of, written}
 use Rattle.defs.specs.Computing.Calls.{place_on, place_answer, tries_on, place_tries, commit_on, commit_answer, EnteredLeaves, PlaceLeaves}
 use Rattle.tables.specs.Flat.{Flat, table_of}
 use Rattle.encode.specs.Room.{Room}
+use Rattle.best.specs.declared.laid.Board.{Board}
 use Rattle.position.specs.Table.{NextIf}
 use Rattle.commiton.specs.Commits.{placed_at}
 use Rattle.wanted.specs.declared.Wanted.{Wanted}
@@ -56,3 +57,7 @@ pub record Put (s o : List ℕ) (w : Wanted) (words : ℕ) (a : Result Position 
   pub answer : a ≡ answer_to w s o words
   pub counted : n ≡ count_to w s o words
   pub leaves : PlaceLeaves s o a s'
+
+abbrev pub OnBoard : Board → (f' l' h' o : List ℕ) → Wanted → ℕ → Result Position Refusal → ℕ → Type 0
+OnBoard k f' l' h' o w words a n =
+    OnTable k.first.now k.lows.now k.highs.now f' l' h' o k.figures.width k.figures.resolution k.figures.columns k.gap k.records w words a n

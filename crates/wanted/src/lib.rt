@@ -4,9 +4,10 @@
 
 ghost use Rattle.std.specs.Prelude.{◌≤◌, length};
 ghost use Rattle.decode.specs.Decodes.{Holds_runs};
-ghost use Rattle.position.specs.Table.{Tabled};
-ghost use Rattle.wanted.specs.Answers.{OnTable, Looked, Put};
+ghost use Rattle.position.specs.On.{NextRoom};
+ghost use Rattle.wanted.specs.Answers.{OnBoard, Looked, Put};
 
+use best::Board;
 use defs::{Figures, PlacingTries, Position};
 use search::Way;
 
@@ -17,15 +18,10 @@ pub enum Wanted {
     At(Position),
 }
 
-// Questions 7 to 14, with the tries, or 7 to 12, 18 and 14, on a table that holds the runs of a strip; where there is a position, the next table holds them
-// with the piece there.
+// Questions 7 to 14, with the tries, or 7 to 12, 18 and 14; where there is a position, the next table holds the board's runs with the
+// piece there.
 fn on_table(
-    g: Figures,
-    gap: u16,
-    q: usize,
-    first: &[u16],
-    lows: &[u16],
-    highs: &[u16],
+    board: Board,
     o: &[u16],
     wanted: Wanted,
     work: &mut [u16],
@@ -33,17 +29,22 @@ fn on_table(
     lows2: &mut [u16],
     highs2: &mut [u16],
 ) -> PlacingTries
-    requires { Tabled first.now lows.now highs.now first2.old lows2.old highs2.old g.width g.resolution g.columns gap q }
-    ensures { OnTable first.now lows.now highs.now first2.new lows2.new highs2.new o.now g.width g.resolution g.columns gap q wanted (length work.old) result.placing result.tries }
+    requires { NextRoom first2.old lows2.old highs2.old }
+    ensures { OnBoard board.entry first2.new lows2.new highs2.new o.now wanted (length work.old) result.placing result.tries }
 {
     match wanted {
         Wanted::Best(mask) => placeon::place_on(
-            g, gap, q, first, lows, highs, o, mask, Way::Walk, work, first2, lows2, highs2,
+            board,
+            o,
+            mask,
+            Way::Walk,
+            work,
+            first2,
+            lows2,
+            highs2,
         ),
         Wanted::At(p) => PlacingTries {
-            placing: commiton::commit_on(
-                g, gap, q, first, lows, highs, o, p, work, first2, lows2, highs2,
-            ),
+            placing: commiton::commit_on(board, o, p, work, first2, lows2, highs2),
             tries: 0,
         },
     }
@@ -63,20 +64,24 @@ fn look_decoded(
     lows2: &mut [u16],
     highs2: &mut [u16],
 ) -> PlacingTries
-    requires fact_1 { Holds_runs strip.now first.now lows.now highs.now t }
-    requires fact_2 { (4097 ≤ length first2.old) × (24001 ≤ length lows2.old) × (24001 ≤ length highs2.old) }
+    requires holds { Holds_runs strip.now first.now lows.now highs.now t }
+    requires room { NextRoom first2.old lows2.old highs2.old }
     ensures { Looked strip.now o.now wanted (length work.old) result.placing result.tries first2.new lows2.new highs2.new }
 {
-    let g = Figures {
+    let figures = Figures {
         width: strip[limits::WIDTH],
         resolution: strip[limits::RESOLUTION],
         columns: strip[limits::COLUMNS],
     };
-    let q = limits::records_of(g.columns, strip.len());
-    let gap = strip[limits::GAP];
-    on_table(
-        g, gap, q, first, lows, highs, o, wanted, work, first2, lows2, highs2,
-    )
+    let board = Board {
+        figures,
+        gap: strip[limits::GAP],
+        records: limits::records_of(figures.columns, strip.len()),
+        first,
+        lows,
+        highs,
+    };
+    on_table(board, o, wanted, work, first2, lows2, highs2)
 }
 
 // All questions; where there is a position, the next table holds the strip's runs with the piece there. Leaves words in the work buffer.

@@ -8,7 +8,8 @@ loop-t-init c = (no_turns _ _ _ _ _ _ _ _ _, none_kept _ _ _ _)
 
 pub allowed_turn-s-requires : goal.allowed_turn-s-requires
 allowed_turn-s-requires c = record {
-  ready = c.requires.ready;
+  lent = c.requires.lent;
+  bounds = c.requires.bounds;
   turn = omega arith;
   ten = c.requires.ten;
   so_far = rw c.loop-t.auto.work c.loop-t.invariant.0;

@@ -13,11 +13,11 @@ loop-at-init c =
 pub returns-then-g-at : goal.returns-then-g-at
 returns-then-g-at c =
     elim c.then-g-at.branch [
-      then-g-at-via-then-g-at w ↦ free_past c.loop-at.invariant (omega arith) (omega arith)
-    | then-g-at-via-else-g-at+then-g-k w ↦ free_long c.loop-at.invariant (omega arith) (omega arith)
-    | then-g-at-via-else-g-at+else-g-k+then-not-is_free w ↦
-        free_wrong c.loop-at.invariant c.requires.columns (omega arith)
-        (λ x. false≢true (sym w.if-not-is_free.true ∙ w.is_free.ensures.1 x))
+      | then-g-at-via-then-g-at w ↦ free_past c.loop-at.invariant (omega arith) (omega arith)
+      | then-g-at-via-else-g-at+then-g-k w ↦ free_long c.loop-at.invariant (omega arith) (omega arith)
+      | then-g-at-via-else-g-at+else-g-k+then-not-is_free w ↦
+          free_wrong c.loop-at.invariant c.requires.columns (omega arith)
+          (λ x. false≢true (sym w.if-not-is_free.true ∙ w.is_free.ensures.1 x))
     ]
 
 pub loop-at-preserved : goal.loop-at-preserved

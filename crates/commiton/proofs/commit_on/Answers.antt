@@ -5,9 +5,9 @@ use Rattle.commiton.proofs.commit_on.Goals as goal
 
 pub commit_runs-requires : goal.commit_runs-requires
 commit_runs-requires c = let p = rw c.in-Ok.is at c.order.ensures in record {
-  fact_1 = c.requires;
-  fact_2 = record { none_no = sym p.0 };
-  fact_3 = p.1;
+  room = c.requires;
+  passes = record { none_no = sym p.0 };
+  bounds = p.1;
 }
 
 pub returns-in-Err : goal.returns-in-Err

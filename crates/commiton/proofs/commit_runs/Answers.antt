@@ -3,31 +3,31 @@ use mathlib.Core.Path.{sym, ◌∙◌}
 use native.Mathlib.Omega.{arith}
 use borrow.Author.Rules.{rules}
 use Rattle.best.proofs.Turns.{put_kept}
-use Rattle.commiton.proofs.Answers.{lent, turn_most, keeps, resolution, eleven, twelve, eighteen, fourteen, frame, tested, enterable, refused_on, entered_on}
+use Rattle.commiton.proofs.Answers.{lent, turn_most, keeps, eleven, twelve, eighteen, fourteen, frame, tested, enterable, refused_on, entered_on}
 use Rattle.commiton.proofs.commit_runs.Goals as goal
 
 pub extent_of-e-requires : goal.extent_of-e-requires
 extent_of-e-requires c = let pre = c.requires in
     record {
-      fact_1 = omega (arith, (lent pre.fact_2).some);
-      fact_2 = pre.fact_3;
-      fact_3 = turn_most pre.fact_2;
+      fact_1 = omega (arith, (lent pre.passes).some);
+      fact_2 = pre.bounds;
+      fact_3 = turn_most pre.passes;
     }
 
 pub put_turn-k-requires : goal.put_turn-k-requires
 put_turn-k-requires c = let pre = c.requires in record {
-  fact_1 = lent pre.fact_2;
-  fact_2 = pre.fact_3;
-  fact_3 = (turn_most pre.fact_2, c.extent_of-e.ensures.0);
-  fact_4 = keeps pre.fact_2;
-  fact_5 = (resolution pre.fact_1, pre.fact_1.gap);
+  fact_1 = lent pre.passes;
+  fact_2 = pre.bounds;
+  fact_3 = (turn_most pre.passes, c.extent_of-e.ensures.0);
+  fact_4 = keeps pre.passes;
+  fact_5 = (record { least = c.args.board.limits.resolution.at_least; most = c.args.board.limits.resolution.at_most }, c.args.board.few.0);
 }
 
 pub returns-then-k-eq0 : goal.returns-then-k-eq0
 returns-then-k-eq0 c =
     let pre = c.requires in
     refused_on c.refused.ensures
-    (eleven _ _ _ _ _ _ _ _ _ pre.fact_2.none_no pre.fact_1.limits.resolution.at_least
+    (eleven _ _ _ _ _ _ _ _ _ pre.passes.none_no c.args.board.limits.resolution.at_least
     (sym c.put_turn-k.ensures.count ∙ c.if-k-eq0.true))
 
 pub returns-then-work-k : goal.returns-then-work-k
@@ -35,70 +35,70 @@ returns-then-work-k c =
     let pre = c.requires in
     let put = c.put_turn-k.ensures in
     refused_on c.refused-then-work-k.ensures
-    (twelve _ _ _ _ _ _ _ _ _ pre.fact_2.none_no pre.fact_1.limits.resolution.at_least
+    (twelve _ _ _ _ _ _ _ _ _ pre.passes.none_no c.args.board.limits.resolution.at_least
     (omega (arith, put.count, c.if-k-eq0.false))
     (omega (arith, put.count, put.long, c.if-work-k.true)))
 
 pub columns_for-requires : goal.columns_for-requires
-columns_for-requires c = c.requires.fact_1.limits.resolution.at_least
+columns_for-requires c = c.args.board.limits.resolution.at_least
 
 pub invariant_of-s : goal.invariant_of-s
 invariant_of-s c = let pre = c.requires in
-    let bounds = pre.fact_3 in
+    let bounds = pre.bounds in
     let put = c.put_turn-k.ensures in
     let room = c.if-work-k.false in
     let extent = c.extent_of-e.ensures in
     let columns = c.columns_for.ensures in record {
       framed = frame c.args.p
-          pre.fact_1.gap pre.fact_1.table pre.fact_2 bounds put room extent.0 columns extent.1;
-      limits = (pre.fact_1.limits.width.at_most, pre.fact_1.limits.columns.at_most);
+          c.args.board.few.0 c.args.board.table pre.passes bounds put room extent.0 columns extent.1;
+      limits = (c.args.board.limits.width.at_most, c.args.board.limits.columns.at_most);
     }
 
 pub returns-then-not-fits_at : goal.returns-then-not-fits_at
 returns-then-not-fits_at c =
     let pre = c.requires in
-    let bounds = pre.fact_3 in
+    let bounds = pre.bounds in
     let put = c.put_turn-k.ensures in
     let room = c.if-work-k.false in
     let extent = c.extent_of-e.ensures in
     let columns = c.columns_for.ensures in
     let free = tested c.args.p
-    pre.fact_1.gap pre.fact_1.table pre.fact_2 bounds put room extent.0 columns extent.1
+    c.args.board.few.0 c.args.board.table pre.passes bounds put room extent.0 columns extent.1
     c.fits_at.ensures in
     refused_on c.refused-then-not-fits_at.ensures
-    (eighteen _ _ _ _ _ _ _ _ _ pre.fact_2.none_no pre.fact_1.limits.resolution.at_least
+    (eighteen _ _ _ _ _ _ _ _ _ pre.passes.none_no c.args.board.limits.resolution.at_least
     (omega (arith, put.count, c.if-k-eq0.false))
     (omega (arith, put.count, put.long, room))
     (sym free ∙ c.if-not-fits_at.true))
 
 pub enter_at-requires : goal.enter_at-requires
 enter_at-requires c = let pre = c.requires in
-    let bounds = pre.fact_3 in
+    let bounds = pre.bounds in
     let put = c.put_turn-k.ensures in
     let room = c.if-work-k.false in
     let extent = c.extent_of-e.ensures in
     let columns = c.columns_for.ensures in record {
-      fact_1 = pre.fact_1;
-      fact_2 = enterable c.args.p
-          pre.fact_1.gap pre.fact_1.table pre.fact_2 bounds put room extent.0 columns extent.1
+      room = pre.room;
+      at = enterable c.args.p
+          c.args.board.few.0 c.args.board.table pre.passes bounds put room extent.0 columns extent.1
           c.fits_at.ensures
           c.if-not-fits_at.false (search rules);
-      fact_3 = put_kept put;
+      kept = put_kept put;
     }
 
 pub returns : goal.returns
 returns c =
     let pre = c.requires in
-    let bounds = pre.fact_3 in
+    let bounds = pre.bounds in
     let put = c.put_turn-k.ensures in
     let room = c.if-work-k.false in
     let extent = c.extent_of-e.ensures in
     let columns = c.columns_for.ensures in
     let free = tested c.args.p
-    pre.fact_1.gap pre.fact_1.table pre.fact_2 bounds put room extent.0 columns extent.1
+    c.args.board.few.0 c.args.board.table pre.passes bounds put room extent.0 columns extent.1
     c.fits_at.ensures in
     entered_on c.enter_at.ensures
-    (fourteen _ _ _ _ _ _ _ _ _ pre.fact_2.none_no pre.fact_1.limits.resolution.at_least
+    (fourteen _ _ _ _ _ _ _ _ _ pre.passes.none_no c.args.board.limits.resolution.at_least
     (omega (arith, put.count, c.if-k-eq0.false))
     (omega (arith, put.count, put.long, room))
     (sym free ∙ c.if-not-fits_at.false))

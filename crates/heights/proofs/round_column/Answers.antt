@@ -40,10 +40,10 @@ loop-left-preserved-then-k-p c =
     let g = c.loop-left.invariant in
     let few : c.loop-left.left ≤ c.runs_before-p.result = g.few in
     let left : RunsLeft c.loop-left.y c.settle-z.result c.runs_before-p.result c.loop-left.left c.if-y-z.left =
-        elim c.if-y-z.branch [
-          then-y-z w ↦ rises (omega arith) few w.if-y-z.true w.left-is
-        | else-y-z w ↦ stays (omega arith) w.if-y-z.false w.left-is
-        ] in
+    elim c.if-y-z.branch [
+      | then-y-z w ↦ rises (omega arith) few w.if-y-z.true w.left-is
+      | else-y-z w ↦ stays (omega arith) w.if-y-z.false w.left-is
+    ] in
     let fits : c.args.c ≤ c.args.s.columns = omega (arith, c.requires) in
     going_next c.args.s.framed fits c.runs_before-p.ensures (run_left g (omega arith)) g
     (settled_whole c.args.s.first.now _ _ _ _ (omega (arith, c.runs_before-p.ensures.inside c.loop-left.k (run_left g (omega arith)), c.requires, c.args.s.framed.table.flat.firsts)) c.settle-z.ensures) (omega arith) (omega arith) left (next_up c.if-k-p.true)
@@ -53,10 +53,10 @@ loop-left-preserved c =
     let g = c.loop-left.invariant in
     let few : c.loop-left.left ≤ c.runs_before-p.result = g.few in
     let left : RunsLeft c.loop-left.y c.settle-z.result c.runs_before-p.result c.loop-left.left c.if-y-z.left =
-        elim c.if-y-z.branch [
-          then-y-z w ↦ rises (omega arith) few w.if-y-z.true w.left-is
-        | else-y-z w ↦ stays (omega arith) w.if-y-z.false w.left-is
-        ] in
+    elim c.if-y-z.branch [
+      | then-y-z w ↦ rises (omega arith) few w.if-y-z.true w.left-is
+      | else-y-z w ↦ stays (omega arith) w.if-y-z.false w.left-is
+    ] in
     let fits : c.args.c ≤ c.args.s.columns = omega (arith, c.requires) in
     going_next c.args.s.framed fits c.runs_before-p.ensures (run_left g (omega arith)) g
     (settled_whole c.args.s.first.now _ _ _ _ (omega (arith, c.runs_before-p.ensures.inside c.loop-left.k (run_left g (omega arith)), c.requires, c.args.s.framed.table.flat.firsts)) c.settle-z.ensures) (omega arith) (omega arith) left (next_round c.if-k-p.false)
