@@ -126,7 +126,9 @@ impl<'a> Piece<'a> {
         page.fill(b"'/>", &[]);
         let part = marks::part_of(self.long);
         // A piece that was placed has runs, and the work buffer has room for them.
-        let count = cover::cover(self.outline.words, self.position.turn, part, 0, work).unwrap_or(0);
+        let count = cover::cover(self.outline.words, self.position.turn, part, 0, work).unwrap_or(
+            0,
+        );
         let runs = work.get(..marks::RUN_WORDS * count as usize).unwrap_or(&[]);
         if let Some(spot) = marks::spot_of(runs, self.long, u64::from(font), self.ordinal) {
             self.put_ordinal(page, spot);

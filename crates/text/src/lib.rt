@@ -9,7 +9,6 @@ ghost use Rattle.text.specs.Lent.{Answered, Passes, Shows};
 
 use defs::{Refusal, Totals};
 
-
 // The text of every job fits.
 pub const ROOM: usize = 8192;
 

@@ -37,13 +37,23 @@ returns c = going_end c.loop-at.invariant.0 c.in-None.ensures.steps
 pub loop-at-init : goal.loop-at-init
 loop-at-init c = (
   rw c.into_iter-at-iterator.ensures.into_iter_gives (going_start (length c.args.work.now) c.requires c.of-at-items.ensures c.number-last.ensures),
-  search rules, search rules, search rules, search rules, search rules, search rules, search rules,
+  search rules,
+  search rules,
+  search rules,
+  search rules,
+  search rules,
+  search rules,
+  search rules,
 )
 
 pub loop-at-preserved : goal.loop-at-preserved
 loop-at-preserved c = (
   going_next c.loop-at.invariant.0 c.in-Some.ensures.steps (rw c.loop-at.invariant.7 at c.lay_piece-t.ensures),
-  c.first-1.given ∙ c.loop-at.invariant.1, c.lows-1.given ∙ c.loop-at.invariant.2, c.highs-1.given ∙ c.loop-at.invariant.3,
-  c.first2-1.given ∙ c.loop-at.invariant.4, c.lows2-1.given ∙ c.loop-at.invariant.5, c.highs2-1.given ∙ c.loop-at.invariant.6,
+  c.first-1.given ∙ c.loop-at.invariant.1,
+  c.lows-1.given ∙ c.loop-at.invariant.2,
+  c.highs-1.given ∙ c.loop-at.invariant.3,
+  c.first2-1.given ∙ c.loop-at.invariant.4,
+  c.lows2-1.given ∙ c.loop-at.invariant.5,
+  c.highs2-1.given ∙ c.loop-at.invariant.6,
   c.work-1.given ∙ c.loop-at.invariant.7,
 )
