@@ -19,6 +19,17 @@ struct Point {
     y: u32,
 }
 
+// A point of the turned outline, moved to a position in columns of r units.
+fn moved(x: u16, y: u16, r: u16, p: Position) -> Point
+    ensures across { result.x ≡ x + p.column * r }
+    ensures up { result.y ≡ y + p.height }
+{
+    Point {
+        x: u32::from(x) + u32::from(p.column) * u32::from(r),
+        y: u32::from(y) + u32::from(p.height),
+    }
+}
+
 // Where a piece was placed, by its entry.
 fn position_of(entry: &[u16]) -> Option<Position> {
     if marks::word(entry, 0) != 0 {
@@ -60,25 +71,13 @@ impl<'a> Piece<'a> {
         })
     }
 
-    // A point of the turned outline, moved to the piece's position.
-    fn moved(&self, x: u16, y: u16) -> Point
-        ensures across { result.x ≡ x + self.now.position.column * self.now.resolution }
-        ensures up { result.y ≡ y + self.now.position.height }
-    {
-        let p = self.position;
-        Point {
-            x: u32::from(x) + u32::from(p.column) * u32::from(self.resolution),
-            y: u32::from(y) + u32::from(p.height),
-        }
-    }
-
     // Vertex i: that of document 01's moved piece.
     fn point_at(&self, i: usize) -> Point
         requires { i < sides self.now.outline.words.now }
         ensures { PointOf self.now.outline.words.now self.now.resolution self.now.position i result.x result.y }
     {
         let v = self.outline.vertex(i);
-        self.moved(v.x, v.y)
+        moved(v.x, v.y, self.resolution, self.position)
     }
 
     fn put_points(&self, page: &mut Page) {
@@ -93,8 +92,8 @@ impl<'a> Piece<'a> {
         if !stretch::is_long(s) {
             return;
         }
-        let from = self.moved(s.xl, s.yl);
-        let to = self.moved(s.xr, s.yr);
+        let from = moved(s.xl, s.yl, self.resolution, self.position);
+        let to = moved(s.xr, s.yr, self.resolution, self.position);
         page.fill(
             b"M%l -%lL%l -%l",
             &[
@@ -107,7 +106,7 @@ impl<'a> Piece<'a> {
     }
 
     fn put_ordinal(&self, page: &mut Page, spot: Spot) {
-        let corner = self.moved(0, 0);
+        let corner = moved(0, 0, self.resolution, self.position);
         page.fill(
             b"<text class='middle' dy='.35em' x='%l' y='-%l' font-size='%l'>%n</text>\n",
             &[
