@@ -108,7 +108,10 @@ fn swaps(e: Side, f: Side) -> bool
 fn beside(lo: u16, hi: u16, p: u16, q: u16) -> bool
     ensures { result ≡ false → Outside lo hi p q }
 {
-    !(p <= lo && q <= lo || hi <= p && hi <= q)
+    if p <= lo && q <= lo {
+        return false;
+    }
+    p < hi || q < hi
 }
 
 // Whether e, between heights lo and hi, changes order with edge j, which goes from y = p to y = q. Its x are read only where it is beside e,

@@ -1,4 +1,4 @@
--- What is kept, and a column's runs copied to the end of a table.
+-- Words copied one by one, and a column's runs copied to the end of a table.
 -- Assumes nothing.
 use mathlib.Core.Path.{◌≡◌, refl, ◌∙◌}
 use mathlib.Core.List.{List}
@@ -15,6 +15,28 @@ kept_none s b = record { long = refl; before = λ i p. refl }
 
 pub kept_more : {s t u : List ℕ} {a b : ℕ} → Kept s t a → Kept t u b → b ≤ a → Kept s u b
 kept_more j k l = record { long = k.long ∙ j.long; before = λ i p. k.before i p ∙ j.before i (omega arith) }
+
+pub copied_none : (s o : List ℕ) (a t : ℕ) → Copied s o o a a t
+copied_none s o a t = record { kept = kept_none o t; moved = λ i j p q e. absurd (omega arith) }
+
+pub copied_more : {s o n : List ℕ} {a i t j : ℕ} → Copied s o n a i t → j + a ≡ i + t → a ≤ i → j < length n →
+    Copied s o (set n j (get_or s i 0)) a (i + 1) t
+copied_more {s} {o} {n} {a} {i} {t} {j} c e ai l =
+    record {
+      kept =
+          record {
+            long = simp length-set c.kept.long;
+            before = λ m p. get_or-set_other n j m _ 0 (omega arith) ∙ c.kept.before m p;
+          };
+      moved = λ m k p q d. at m k p q d (dec_lt m i);
+    }
+  where
+    at : (m k : ℕ) → a ≤ m → m < i + 1 → k + a ≡ m + t → Dec (m < i) → get_or (set n j (get_or s i 0)) k 0 ≡ get_or s m 0
+    at m k p q d (yes u) = get_or-set_other n j k _ 0 (omega arith) ∙ c.moved m k p u d
+    at m k p q d (no u) =
+        let x : k ≡ j = omega arith in
+        let y : m ≡ i = omega arith in
+        rw (x, y) (get_or-set_same n j _ 0 l)
 
 -- The runs a to e - 1 of l, h, copied to t: they have the same rows, and are apart as they were.
 module _ {l h l₁ h₁ l' h' : List ℕ} {a e t : ℕ} (lows : Copied l l₁ l' a e t) (highs : Copied h h₁ h' a e t) (rise : a ≤ e) where

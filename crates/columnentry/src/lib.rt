@@ -23,12 +23,15 @@ pub struct Built {
     pub used: usize,
 }
 
-// Copies the words a to e - 1 to t.
+// Copies the words a to e - 1 to t. Word by word: a column has few, and for so few `copy_from_slice`, which is memcpy, takes lay a fifth
+// more instructions.
 fn copy_words(from: &[u16], a: usize, e: usize, to: &mut [u16], t: usize)
     requires { (a ≤ e) × (e ≤ length from.now) × (t + e ≤ length to.old + a) }
     ensures { Copied from.now to.old to.new a e t }
 {
-    to[t..t + (e - a)].copy_from_slice(&from[a..e]);
+    for i in a..e {
+        to[t + (i - a)] = from[i];
+    }
 }
 
 // The end of the piece's runs in column k, which begin with run a.
