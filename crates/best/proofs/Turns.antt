@@ -188,11 +188,11 @@ ready k lent bounds =
     record {
       lent = lent;
       bounds = bounds;
-      least = k.limits.resolution.at_least;
-      most = k.limits.resolution.at_most;
-      gap = k.few.0;
-      width = k.limits.width.at_most;
-      columns = k.limits.columns.at_most;
+      least = k.resolution.0;
+      most = k.resolution.1;
+      gap = k.limits.0;
+      width = k.limits.1;
+      columns = k.limits.2;
       count = _;
       table = k.table;
     }

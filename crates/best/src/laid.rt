@@ -1,7 +1,6 @@
 // The runs of a strip, laid flat.
 
 ghost use Rattle.std.specs.Prelude.{◌≤◌, get_or};
-ghost use Rattle.defs.specs.Meaning.Strip.{Limits};
 ghost use Rattle.tables.specs.Flat.{Laid};
 
 use defs::Figures;
@@ -15,7 +14,7 @@ pub struct Board<'a> {
     pub first: &'a [u16],
     pub lows: &'a [u16],
     pub highs: &'a [u16],
-    pub ghost limits: { Limits figures.width figures.resolution figures.columns },
-    pub ghost few: { (gap ≤ 400) × (records ≤ 16000) },
+    pub ghost resolution: { (1 ≤ figures.resolution) × (figures.resolution ≤ 400) },
+    pub ghost limits: { (gap ≤ 400) × (figures.width ≤ 16000) × (figures.columns ≤ 4096) },
     pub ghost table: { Laid first.now lows.now highs.now figures.width figures.columns (get_or first.now figures.columns 0) },
 }

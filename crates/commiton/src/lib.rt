@@ -24,7 +24,7 @@ fn commit_runs(
     lows2: &mut [u16],
     highs2: &mut [u16],
 ) -> Result<Position, Refusal>
-    requires room { NextRoom first2.old lows2.old highs2.old }
+    requires room { NextRoom board.records first2.old lows2.old highs2.old }
     requires passes { TurnPasses o.now p.turn }
     requires bounds { BoundsOf o.now b }
     ensures { CommittedIn board.entry first2.new lows2.new highs2.new o.now p (length work.old) result }
@@ -69,7 +69,7 @@ pub fn commit_on(
     lows2: &mut [u16],
     highs2: &mut [u16],
 ) -> Result<Position, Refusal>
-    requires { NextRoom first2.old lows2.old highs2.old }
+    requires { NextRoom board.records first2.old lows2.old highs2.old }
     ensures { CommittedIn board.entry first2.new lows2.new highs2.new o.now p (length work.old) result }
 {
     match cover::order(o, p.turn) {

@@ -1,6 +1,7 @@
 // The outlines of a cut list, one after another.
 #![tactic(auto)]
 
+ghost use Rattle.std.specs.Prelude.{◌≤◌, length, IfSome};
 ghost use Rattle.std.specs.Iterator.{at_most};
 
 // The outlines that are still to come, and the words that they stand in.
@@ -21,6 +22,8 @@ impl<'a> Outlines<'a> {
 
 impl<'a> Iterator for Outlines<'a> {
     type Item = &'a [u16];
+
+    ghost next_gives = { λ s r t. IfSome r (λ o. length o.now ≤ 131070) };
 
     ghost remaining = { λ s. at_most s.left };
 

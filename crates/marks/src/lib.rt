@@ -164,7 +164,12 @@ fn spot_in(runs: &[u16], run: Run, long: u16, font: u64, k: u64) -> Spot {
 }
 
 // The place for the ordinal of a piece that is so long and has these runs.
-pub fn spot_of(runs: &[u16], long: u16, font: u64, k: u64) -> Option<Spot> {
-    let run = best_run(runs, long)?;
-    Some(spot_in(runs, run, long, font, k))
+pub fn spot_of(runs: &[u16], long: u16, font: u64, k: u64) -> Spot {
+    let corner = Run {
+        column: 0,
+        low: 0,
+        high: 0,
+    };
+    let run = best_run(runs, long).unwrap_or(corner);
+    spot_in(runs, run, long, font, k)
 }

@@ -19,7 +19,7 @@ pub fn place_on(
     lows2: &mut [u16],
     highs2: &mut [u16],
 ) -> PlacingTries
-    requires { NextRoom first2.old lows2.old highs2.old }
+    requires { NextRoom board.records first2.old lows2.old highs2.old }
     ensures { CountedIn board.entry first2.new lows2.new highs2.new o.now mask (length work.old) way result.placing result.tries }
 {
     let ninth = checks::nine(mask);

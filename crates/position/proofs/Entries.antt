@@ -16,7 +16,7 @@ use Rattle.defs.specs.Computing.Search.{entered}
 use Rattle.defs.specs.Computing.Calls.{refusal, q14b}
 use Rattle.geom.proofs.PieceCells.{runs_apart}
 use Rattle.cells.specs.Put.{PutRuns}
-use Rattle.tables.specs.Flat.{table_of}
+use Rattle.tables.specs.Flat.{Laid, table_of}
 use Rattle.tables.specs.Piece.{Stands}
 use Rattle.tables.proofs.Flats.{count_is}
 use Rattle.tables.proofs.PieceWords.{piece_runs_lem, piece_feet}
@@ -28,21 +28,29 @@ use Rattle.enter.specs.Enters.{Entered, TooMany}
 use Rattle.outline.specs.declared.Bounds.{Bounds}
 use Rattle.best.specs.declared.laid.Board.{Board}
 use Rattle.position.specs.On.{NextRoom}
-use Rattle.position.specs.Table.{Tabled, Enterable, EntersAt}
+use Rattle.position.specs.Table.{Enterable, EntersAt}
 
--- a board's table, and room for the next one
-pub tabled : (k : Board) {f' l' h' : List ℕ} → NextRoom f' l' h' →
-    Tabled k.first.now k.lows.now k.highs.now f' l' h' k.figures.width k.figures.resolution k.figures.columns k.gap k.records
-tabled k room =
+-- what entering asks of a table of a strip with Q records, and of the room for the next one
+pub record Enters (f l h f' l' h' : List ℕ) (W R N g Q : ℕ) : Type 0 where
+  pub least : 1 ≤ R
+  pub gap : g ≤ 400
+  pub width : W ≤ 16000
+  pub columns : N ≤ 4096
+  pub count : ℕ
+  pub table : Laid f l h W N count
+  pub room : NextRoom Q f' l' h'
+
+pub on_board : (k : Board) {f' l' h' : List ℕ} → NextRoom k.records f' l' h' →
+    Enters k.first.now k.lows.now k.highs.now f' l' h' k.figures.width k.figures.resolution k.figures.columns k.gap k.records
+on_board k room =
     record {
-      limits = k.limits;
-      gap = k.few.0;
-      records = k.few.1;
+      least = k.resolution.0;
+      gap = k.limits.0;
+      width = k.limits.1;
+      columns = k.limits.2;
       count = _;
       table = k.table;
-      firsts = room.firsts;
-      lows = room.lows;
-      highs = room.highs;
+      room = room;
     }
 
 -- runs that are put into the work buffer, and runs that stand there
@@ -63,33 +71,33 @@ module _
     {work : List ℕ}
     {k : ℕ}
     (p : Position)
-    (tabled : Tabled f l h f' l' h' W R N g Q)
+    (board : Enters f l h f' l' h' W R N g Q)
     (at : Enterable f l h o W R N g b words p)
     (stand : Stands (piece_runs o p.turn R g) work k) where
   abbrev target : Entry
   target = record { columns = N; width = W; most = Q; runs = k; column = p.column; height = p.height }
 
   pub old : Old f l h target
-  old = record { count = tabled.count; laid = tabled.table }
+  old = record { count = board.count; laid = board.table }
 
   pub fits : Fits work target
   fits =
       record {
-        width = tabled.limits.width.at_most;
-        columns = tabled.limits.columns.at_most;
-        most = tabled.records;
+        width = board.width;
+        columns = board.columns;
+        most = board.room.records;
         wide = _;
         tall = _;
         piece = piece_runs_lem o p.turn R g work k stand;
         right = omega (arith, at.on_strip.columns);
         height = omega (arith, at.on_strip.rows);
-        rows = omega (arith, at.on_strip.rows, tabled.limits.width.at_most, tabled.gap);
+        rows = omega (arith, at.on_strip.rows, board.width, board.gap);
         feet =
             λ m l.
             omega (
               arith,
               at.on_strip.rows,
-              piece_feet o p.turn R g at.keeps (omega (arith, at.lent.some)) tabled.limits.resolution.at_least stand m l,
+              piece_feet o p.turn R g at.keeps (omega (arith, at.lent.some)) board.least stand m l,
             );
       }
 

@@ -7,8 +7,9 @@ use Rattle.search.specs.declared.Way.{Way}
 use Rattle.best.specs.declared.laid.Board.{Board}
 use Rattle.position.specs.Table.{Enterable, EntersAt, CountedOn}
 
--- room for the next table
-pub record NextRoom (f l h : List ℕ) : Type 0 where
+-- room for the next table of a strip with Q records
+pub record NextRoom (Q : ℕ) (f l h : List ℕ) : Type 0 where
+  pub records : Q ≤ 16000
   pub firsts : 4097 ≤ length f
   pub lows : 24001 ≤ length l
   pub highs : 24001 ≤ length h

@@ -62,7 +62,7 @@ pub fn enter_at(
     lows2: &mut [u16],
     highs2: &mut [u16],
 ) -> Result<Position, Refusal>
-    requires room { NextRoom first2.old lows2.old highs2.old }
+    requires room { NextRoom board.records first2.old lows2.old highs2.old }
     requires at { EnterableIn board o.now b (length work.old) p }
     requires kept { KeptOn board o.now work.old s.turn s.runs }
     ensures { EntersIn board.entry first2.new lows2.new highs2.new o.now p result }
@@ -105,7 +105,7 @@ pub fn place_best(
     lows2: &mut [u16],
     highs2: &mut [u16],
 ) -> PlacingTries
-    requires room { NextRoom first2.old lows2.old highs2.old }
+    requires room { NextRoom board.records first2.old lows2.old highs2.old }
     requires ordered { Ordered o.now (q9b mask) mask }
     requires bounds { BoundsOf o.now b }
     requires none_before { NoneBeforeOn board o.now mask lower }

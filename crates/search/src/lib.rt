@@ -28,6 +28,7 @@ pub struct Edges {
 // The least free position of a piece. Going round, only columns from which its right edge counts are tried, and no tries are counted: they
 // are not those of the walk.
 pub fn search(s: Search, way: Way, e: Edges) -> WithTries<Option<(usize, u16)>>
+    requires columns { s.columns ≤ 4096 }
     requires positive { 1 ≤ e.resolution }
     requires full { FullOf s (columns_for (e.least - e.extent) e.resolution) }
     ensures { LooksIn s.entry (columns_for (e.most + 1 - e.extent) e.resolution) way result }

@@ -129,9 +129,8 @@ impl<'a> Piece<'a> {
             0,
         );
         let runs = work.get(..marks::RUN_WORDS * count as usize).unwrap_or(&[]);
-        if let Some(spot) = marks::spot_of(runs, self.long, u64::from(font), self.ordinal) {
-            self.put_ordinal(page, spot);
-        }
+        let spot = marks::spot_of(runs, self.long, u64::from(font), self.ordinal);
+        self.put_ordinal(page, spot);
     }
 
     // The outline as a part of a path. What it draws twice has no gap, but its shade lies below all pieces.

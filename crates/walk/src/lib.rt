@@ -112,6 +112,7 @@ pub fn walk_column(s: Search, c: usize) -> WithTries<Option<u16>>
 
 // The least free column, the least free height in it, and the tries.
 pub fn walk_turn(s: Search) -> WithTries<Option<(usize, u16)>>
+    requires { s.columns ≤ 4096 }
     ensures { WalkedTurnOf s.entry result }
 {
     let mut tries: u32 = 0;

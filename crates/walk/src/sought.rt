@@ -16,5 +16,5 @@ pub struct Search<'a> {
     pub wide: usize,
     pub tall: u16,
     pub ghost framed: { Frame first.now lows.now highs.now runs.now columns width count wide tall },
-    pub ghost limits: { (width ≤ 16000) × (columns ≤ 4096) },
+    pub ghost low: { width ≤ 16000 },
 }

@@ -57,8 +57,11 @@ module _ {s f l h : List ℕ} {t : ℕ} (held : Holds_runs s f l h t) where
   pub limits_of : Limits W R N
   limits_of = (formed s held.well_formed).limits
 
-  pub few_of : {q : ℕ} → q ≡ Q → (g ≤ 400) × (q ≤ 16000)
-  few_of e = let w = formed s held.well_formed in (w.gap, omega (arith, w.long.records.at_most))
+  pub gap_of_lem : g ≤ 400
+  gap_of_lem = (formed s held.well_formed).gap
+
+  pub records_few : {q : ℕ} → q ≡ Q → q ≤ 16000
+  records_few e = let w = formed s held.well_formed in omega (arith, w.long.records.at_most)
 
   pub laid_on : Laid f l h W N (get_or f N 0)
   laid_on = rw held.flat.last laid

@@ -29,7 +29,7 @@ fn on_table(
     lows2: &mut [u16],
     highs2: &mut [u16],
 ) -> PlacingTries
-    requires { NextRoom first2.old lows2.old highs2.old }
+    requires { NextRoom board.records first2.old lows2.old highs2.old }
     ensures { OnBoard board.entry first2.new lows2.new highs2.new o.now wanted (length work.old) result.placing result.tries }
 {
     match wanted {
@@ -65,7 +65,7 @@ fn look_decoded(
     highs2: &mut [u16],
 ) -> PlacingTries
     requires holds { Holds_runs strip.now first.now lows.now highs.now t }
-    requires room { NextRoom first2.old lows2.old highs2.old }
+    requires room { (4097 ≤ length first2.old) × (24001 ≤ length lows2.old) × (24001 ≤ length highs2.old) }
     ensures { Looked strip.now o.now wanted (length work.old) result.placing result.tries first2.new lows2.new highs2.new }
 {
     let figures = Figures {

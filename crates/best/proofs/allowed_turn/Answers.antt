@@ -11,7 +11,7 @@ try_turn-x-requires c = let pre = c.requires in let is = c.allows.ensures in let
   bounds = pre.bounds;
   turn = pre.turn;
   order = keeps_turn _ _ _ pre.turn pre.ten.0 is yes;
-  none_before = none_in_turn _ _ _ pre.lent c.args.board.limits.resolution.at_least c.args.board.table pre.turn pre.ten.0 is yes pre.ten.1;
+  none_before = none_in_turn _ _ _ pre.lent c.args.board.resolution.0 c.args.board.table pre.turn pre.ten.0 is yes pre.ten.1;
 }
 
 pub merge-requires : goal.merge-requires
@@ -19,7 +19,7 @@ merge-requires c = let pre = c.requires in omega (arith, c.try_turn-x.ensures.tr
 
 pub returns : goal.returns
 returns c = let pre = c.requires in record {
-  tried = rw c.merge.ensures (turn_more _ pre.so_far c.args.board.limits.columns.at_most c.args.board.limits.resolution.at_most (sym c.allows.ensures ∙ c.if-not-allows.false) c.limit_of-limit.ensures c.try_turn-x.ensures.tried);
+  tried = rw c.merge.ensures (turn_more _ pre.so_far c.args.board.limits.2 c.args.board.resolution.1 (sym c.allows.ensures ∙ c.if-not-allows.false) c.limit_of-limit.ensures c.try_turn-x.ensures.tried);
   kept = rw c.merge.ensures (c.try_turn-x.ensures.kept);
 }
 

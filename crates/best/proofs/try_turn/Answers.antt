@@ -22,11 +22,12 @@ returns-then-work-k c = record {
 pub invariant_of-s : goal.invariant_of-s
 invariant_of-s c = let pre = ready c.args.board c.requires.lent c.requires.bounds in let fits = stands c.put_turn-k.ensures c.if-work-k.false in let extent = c.extent_of-e.ensures in record {
   framed = frame _ _ _ _ pre.least pre.gap pre.table fits extent.0 c.columns_for.ensures extent.1;
-  limits = (pre.width, pre.columns);
+  low = pre.width;
 }
 
 pub search-x-requires : goal.search-x-requires
 search-x-requires c = let pre = ready c.args.board c.requires.lent c.requires.bounds in let fits = stands c.put_turn-k.ensures c.if-work-k.false in let extent = c.extent_of-e.ensures in record {
+  columns = pre.columns;
   positive = pre.least;
   full = full_before _ _ _ _ pre.least pre.gap pre.table fits extent.0 c.columns_for.ensures extent.1 _ c.requires.none_before;
 }

@@ -20,14 +20,14 @@ put_turn-k-requires c = let pre = c.requires in record {
   fact_2 = pre.bounds;
   fact_3 = (turn_most pre.passes, c.extent_of-e.ensures.0);
   fact_4 = keeps pre.passes;
-  fact_5 = (record { least = c.args.board.limits.resolution.at_least; most = c.args.board.limits.resolution.at_most }, c.args.board.few.0);
+  fact_5 = (record { least = c.args.board.resolution.0; most = c.args.board.resolution.1 }, c.args.board.limits.0);
 }
 
 pub returns-then-k-eq0 : goal.returns-then-k-eq0
 returns-then-k-eq0 c =
     let pre = c.requires in
     refused_on c.refused.ensures
-    (eleven _ _ _ _ _ _ _ _ _ pre.passes.none_no c.args.board.limits.resolution.at_least
+    (eleven _ _ _ _ _ _ _ _ _ pre.passes.none_no c.args.board.resolution.0
     (sym c.put_turn-k.ensures.count ∙ c.if-k-eq0.true))
 
 pub returns-then-work-k : goal.returns-then-work-k
@@ -35,12 +35,12 @@ returns-then-work-k c =
     let pre = c.requires in
     let put = c.put_turn-k.ensures in
     refused_on c.refused-then-work-k.ensures
-    (twelve _ _ _ _ _ _ _ _ _ pre.passes.none_no c.args.board.limits.resolution.at_least
+    (twelve _ _ _ _ _ _ _ _ _ pre.passes.none_no c.args.board.resolution.0
     (omega (arith, put.count, c.if-k-eq0.false))
     (omega (arith, put.count, put.long, c.if-work-k.true)))
 
 pub columns_for-requires : goal.columns_for-requires
-columns_for-requires c = c.args.board.limits.resolution.at_least
+columns_for-requires c = c.args.board.resolution.0
 
 pub invariant_of-s : goal.invariant_of-s
 invariant_of-s c = let pre = c.requires in
@@ -50,8 +50,8 @@ invariant_of-s c = let pre = c.requires in
     let extent = c.extent_of-e.ensures in
     let columns = c.columns_for.ensures in record {
       framed = frame c.args.p
-          c.args.board.few.0 c.args.board.table pre.passes bounds put room extent.0 columns extent.1;
-      limits = (c.args.board.limits.width.at_most, c.args.board.limits.columns.at_most);
+          c.args.board.limits.0 c.args.board.table pre.passes bounds put room extent.0 columns extent.1;
+      low = c.args.board.limits.1;
     }
 
 pub returns-then-not-fits_at : goal.returns-then-not-fits_at
@@ -63,10 +63,10 @@ returns-then-not-fits_at c =
     let extent = c.extent_of-e.ensures in
     let columns = c.columns_for.ensures in
     let free = tested c.args.p
-    c.args.board.few.0 c.args.board.table pre.passes bounds put room extent.0 columns extent.1
+    c.args.board.limits.0 c.args.board.table pre.passes bounds put room extent.0 columns extent.1
     c.fits_at.ensures in
     refused_on c.refused-then-not-fits_at.ensures
-    (eighteen _ _ _ _ _ _ _ _ _ pre.passes.none_no c.args.board.limits.resolution.at_least
+    (eighteen _ _ _ _ _ _ _ _ _ pre.passes.none_no c.args.board.resolution.0
     (omega (arith, put.count, c.if-k-eq0.false))
     (omega (arith, put.count, put.long, room))
     (sym free ∙ c.if-not-fits_at.true))
@@ -80,7 +80,7 @@ enter_at-requires c = let pre = c.requires in
     let columns = c.columns_for.ensures in record {
       room = pre.room;
       at = enterable c.args.p
-          c.args.board.few.0 c.args.board.table pre.passes bounds put room extent.0 columns extent.1
+          c.args.board.limits.0 c.args.board.table pre.passes bounds put room extent.0 columns extent.1
           c.fits_at.ensures
           c.if-not-fits_at.false (search rules);
       kept = put_kept put;
@@ -95,10 +95,10 @@ returns c =
     let extent = c.extent_of-e.ensures in
     let columns = c.columns_for.ensures in
     let free = tested c.args.p
-    c.args.board.few.0 c.args.board.table pre.passes bounds put room extent.0 columns extent.1
+    c.args.board.limits.0 c.args.board.table pre.passes bounds put room extent.0 columns extent.1
     c.fits_at.ensures in
     entered_on c.enter_at.ensures
-    (fourteen _ _ _ _ _ _ _ _ _ pre.passes.none_no c.args.board.limits.resolution.at_least
+    (fourteen _ _ _ _ _ _ _ _ _ pre.passes.none_no c.args.board.resolution.0
     (omega (arith, put.count, c.if-k-eq0.false))
     (omega (arith, put.count, put.long, room))
     (sym free ∙ c.if-not-fits_at.false))

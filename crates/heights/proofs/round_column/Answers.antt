@@ -16,7 +16,7 @@ loop-left-init c =
 
 pub settle-z-requires : goal.settle-z-requires
 settle-z-requires c = let fr = c.args.s.framed in let g = c.loop-left.invariant in
-    let a = asks_part c.args.s.first.now _ _ _ _ (omega (arith, c.runs_before-p.ensures.inside c.loop-left.k (run_left c.loop-left.invariant (omega arith)), c.requires, c.args.s.framed.table.flat.firsts)) (asks fr c.runs_before-p.ensures g (omega (arith, c.requires)) (run_left g (omega arith)) (omega arith) c.args.s.limits.0) in
+    let a = asks_part c.args.s.first.now _ _ _ _ (omega (arith, c.runs_before-p.ensures.inside c.loop-left.k (run_left c.loop-left.invariant (omega arith)), c.requires, c.args.s.framed.table.flat.firsts)) (asks fr c.runs_before-p.ensures g (omega (arith, c.requires)) (run_left g (omega arith)) (omega arith) c.args.s.low) in
     record { column = a.0; run = a.1.0; low = a.1.1 }
 
 pub returns-then-top-z : goal.returns-then-top-z

@@ -12,4 +12,4 @@ place_best-requires c = let p = rw c.in-Ok.is at c.order.ensures in record {
 }
 
 pub returns-in-Err : goal.returns-in-Err
-returns-in-Err c = let p = rw c.in-Err.is at c.order.ensures in untried_on _ c.untried.ensures (to_ten _ _ _ _ _ _ _ _ _ c.args.board.limits.resolution.at_least (refused_to_ten _ _ c.nine-ninth.ensures p.0 p.1) p.1)
+returns-in-Err c = let p = rw c.in-Err.is at c.order.ensures in untried_on _ c.untried.ensures (to_ten _ _ _ _ _ _ _ _ _ c.args.board.resolution.0 (refused_to_ten _ _ c.nine-ninth.ensures p.0 p.1) p.1)

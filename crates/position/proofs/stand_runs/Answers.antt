@@ -11,7 +11,7 @@ put_turn-requires c = let pre = c.requires in record {
   fact_2 = pre.bounds;
   fact_3 = (pre.room.0, c.extent_of-e.ensures.0);
   fact_4 = pre.order;
-  fact_5 = (record { least = c.args.board.limits.resolution.at_least; most = c.args.board.limits.resolution.at_most }, c.args.board.few.0);
+  fact_5 = (record { least = c.args.board.resolution.0; most = c.args.board.resolution.1 }, c.args.board.limits.0);
 }
 
 pub returns : goal.returns

@@ -19,7 +19,7 @@ try_run-requires c =
       column = run_column_lem fr _ (omega (arith, c.requires)) b (omega arith);
       run = (
         fr.some k (omega (arith, b.few)),
-        omega (arith, fr.tall k (omega (arith, b.few)), c.requires, c.args.s.limits),
+        omega (arith, fr.tall k (omega (arith, b.few)), c.requires, c.args.s.low),
         omega arith,
       );
     }

@@ -15,7 +15,7 @@ loop-k-init c = (going_start _ _ _ _ _ _ _ _, count_start _ _ _ _ _ _ _ _)
 pub try_run-requires : goal.try_run-requires
 try_run-requires c = let fr = c.args.s.framed in let k = c.loop-k.k in let g = c.loop-k.invariant.0 in let b = c.runs_before-p.ensures in record {
   column = column_part c.args.s.first.now _ _ _ _ (omega (arith, c.runs_before-p.ensures.inside c.loop-k.k (omega arith), c.requires, c.args.s.framed.table.flat.firsts)) (run_column_lem fr _ (omega (arith, c.requires)) b (omega arith));
-  run = (fr.some k (omega (arith, b.few)), omega (arith, fr.tall k (omega (arith, b.few)), c.args.s.limits, g.low, g.high, c.requires), g.low);
+  run = (fr.some k (omega (arith, b.few)), omega (arith, fr.tall k (omega (arith, b.few)), c.args.s.low, g.low, g.high, c.requires), g.low);
 }
 
 pub loop-k-preserved-in-Clear : goal.loop-k-preserved-in-Clear

@@ -5,7 +5,7 @@ use Rattle.wanted.proofs.look.Goals as goal
 pub look_decoded-requires : goal.look_decoded-requires
 look_decoded-requires c = record {
   holds = rw c.in-Some.is at c.decode.ensures;
-  room = record { firsts = c.requires.0; lows = c.requires.1; highs = c.requires.2 };
+  room = c.requires;
 }
 
 pub returns-in-None : goal.returns-in-None
