@@ -52,9 +52,13 @@ fn run_along(e: Side, f: Side) -> bool
 fn stand_along(e: Side, f: Side) -> bool
     ensures { result ≡ stand_along (edge_of e.xl e.yl e.xr e.yr) (edge_of f.xl f.yl f.xr f.yr) }
 {
+    // first, since most edges are not vertical
+    if e.xl != e.xr || f.xl != f.xr || e.xl != f.xl {
+        return false;
+    }
     let low = e.yl.min(e.yr).max(f.yl.min(f.yr));
     let high = e.yl.max(e.yr).min(f.yl.max(f.yr));
-    e.xl == e.xr && f.xl == f.xr && e.xl == f.xl && low < high
+    low < high
 }
 
 // Whether two edges share a stretch.

@@ -4,10 +4,10 @@ use Rattle.std.proofs.lemmas.Grind.{common_steps}
 use Rattle.strokes.specs.Retrace.{stand_along}
 use Rattle.retrace.proofs.stand_along.Goals as goal
 
-pub returns-then-e-f : goal.returns-then-e-f
+pub returns-then-e : goal.returns-then-e
 unfolding stand_along
-returns-then-e-f c = grind (arith, common_steps)
+returns-then-e c = grind (arith, common_steps)
 
-pub returns-else-e-f : goal.returns-else-e-f
+pub returns : goal.returns
 unfolding stand_along
-returns-else-e-f c = grind (arith, common_steps)
+returns c = grind (arith, common_steps)
