@@ -29,7 +29,7 @@ pub struct Scene {
 }
 
 // The length of n columns.
-fn length_of(n: u16, r: u16) -> u32 {
+pub fn length_of(n: u16, r: u16) -> u32 {
     u32::from(n) * u32::from(r)
 }
 

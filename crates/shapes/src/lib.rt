@@ -14,9 +14,9 @@ use svg::Page;
 
 // A vertex of a placed piece, in units.
 #[derive(Clone, Copy)]
-struct Point {
-    x: u32,
-    y: u32,
+pub struct Point {
+    pub x: u32,
+    pub y: u32,
 }
 
 // A point of the turned outline, moved to a position in columns of r units.

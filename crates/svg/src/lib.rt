@@ -7,7 +7,7 @@ use std::fmt::Write;
 
 // Some programs draw text badly whose size is below 1 or in the ten thousands. A picture with text below this size, in hundredths of a
 // unit, is written 100 times as large,
-const SMALL: u32 = 2000;
+pub const SMALL: u32 = 2000;
 
 // and one with text of this size or more 100 times as small.
 const LARGE: u32 = 200000;

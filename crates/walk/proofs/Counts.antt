@@ -2,13 +2,14 @@
 use mathlib.Core.Path.{◌≡◌, subst}
 use mathlib.Core.Bool.{Bool, true, false}
 use mathlib.Core.List.{List}
-use mathlib.Core.Logic.{⊎_elim}
+use mathlib.Core.Logic.{◌⊎◌, ⊎_elim}
 use Prim.Native.Nat.{ℕ, zero, suc, ◌+◌, ◌-◌, ◌*◌, ◌≤◌, ◌<◌}
 use native.Mathlib.Omega.{arith}
-use Rattle.std.specs.Prelude.{None}
+use Rattle.std.specs.Prelude.{Option, None}
 use Rattle.geom.proofs.Strip.{lt_or_le}
 use Rattle.tables.specs.Piece.{run_column, run_low, run_high}
 use Rattle.tries.specs.Tries.{Lands}
+use Rattle.walk.specs.declared.WithTries.{WithTries}
 use Rattle.walk.specs.Free.{Before, Least, NoHeight}
 use Rattle.walk.specs.Steps.{Steps, past, free, jump, TurnSteps, off, found, next, WalkedTurn}
 use Rattle.walk.proofs.Jumps.{Going, going_end, free_all, Left, left_none, left_more}
@@ -93,11 +94,18 @@ turn_start f l h r N W p w t =
       whole = λ a y. subst (TurnSteps f l h r N W p w t 0) (omega arith) y;
     }
 
--- no column has a try where the piece is higher than the strip
-pub none_walked : {f l h r : List ℕ} {N W p w t : ℕ} → W < t → WalkedTurn f l h r N W p w t (record { found = None; tries = 0 })
-none_walked {f} {l} {h} {r} {N} {W} {p} {w} {t} u =
-    record {
-      spot = λ c fits. record { none = λ z v. absurd (omega arith) };
-      steps = none_tried f l h r N W p w t u (N + 1) 0 (omega arith);
-      few = omega arith;
-    }
+-- no column has a try where the piece is higher than the strip, or wider
+pub none_walked : {f l h r : List ℕ} {N W p w t : ℕ} {a : WithTries (Option (ℕ × ℕ))} → (W < t) ⊎ (N < w) →
+    a ≡ record { found = None; tries = 0 } → WalkedTurn f l h r N W p w t a
+none_walked {f} {l} {h} {r} {N} {W} {p} {w} {t} u e = rw e (go u)
+  where
+    go : (W < t) ⊎ (N < w) → WalkedTurn f l h r N W p w t (record { found = None; tries = 0 })
+    go =
+        ⊎_elim
+        (λ u.
+        record {
+          spot = λ c fits. record { none = λ z v. absurd (omega arith) };
+          steps = none_tried f l h r N W p w t u (N + 1) 0 (omega arith);
+          few = omega arith;
+        })
+        (λ u. record { spot = λ c fits. absurd (omega arith); steps = off 0 (omega arith); few = omega arith })

@@ -1,5 +1,7 @@
 -- `walk_turn` meets its contract: no column before the one that is tried has a free height, and its tries are counted.
 -- Assumes nothing.
+use mathlib.Core.Path.{refl}
+use mathlib.Core.Logic.{inl}
 use native.Mathlib.Omega.{arith}
 use Rattle.walk.proofs.Counts.{turn_start, turn_more, turn_found, turn_end, none_walked}
 use Rattle.walk.proofs.walk_turn.Goals as goal
@@ -36,4 +38,4 @@ returns-after-loop-c c =
     }
 
 pub returns-else-s : goal.returns-else-s
-returns-else-s c = none_walked (omega arith)
+returns-else-s c = none_walked (inl (omega arith)) refl
